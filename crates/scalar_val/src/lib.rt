@@ -1,0 +1,10 @@
+//! The values that columns hold, the texts and lists that the other crates are made of, and the order of values.
+#![tactic(auto)]
+
+mod list;
+mod text;
+mod val;
+
+pub use list::List;
+pub use text::{Bytes, NoMemory, Str};
+pub use val::{Kind, Val, cmp, copy_val, order_laws};
