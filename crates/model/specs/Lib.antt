@@ -1,0 +1,11 @@
+pub mod Values
+pub mod Rows
+pub mod Queries
+pub mod Messages
+pub mod Admission
+pub mod State
+pub mod Connections
+pub mod Batches
+pub mod Publication
+pub mod Run
+pub mod Worked

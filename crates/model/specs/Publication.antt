@@ -1,0 +1,75 @@
+-- What a publication queues (Hasura's live query and streaming subscription documentation).
+use Rattle.std.specs.Prelude.{ℕ, Bool, true, false, not, nat_lt, ◌==◌, if◌then◌else◌, Option, Some, None, List, [], ◌∷◌, ◌++◌, map}
+use Rattle.scalar_val.specs.declared.val.Val.{Val}
+use Rattle.model.specs.Values.{same_text}
+use Rattle.model.specs.Rows.{Database, snapshot}
+use Rattle.model.specs.Queries.{Live, Once, Stream, QueryKind, Result, result}
+use Rattle.model.specs.Messages.{next_text, complete_text}
+use Rattle.model.specs.Admission.{Meta}
+use Rattle.model.specs.State.{State, Subscription, Member, Job, Step, Effect, Reply, NotOpen, Published, silent, with_reply, nothing}
+use Rattle.model.specs.Connections.{queue_text, end_where}
+use Rattle.model.specs.Batches.{is_subscription, subscription_at, without_job}
+
+-- one effect, and then another
+abbrev pub and_then : Effect → (State → Effect) → Effect
+and_then first more =
+    record { state = (more first.state).state; queued = first.queued ++ (more first.state).queued; closed = first.closed ++ (more first.state).closed }
+
+abbrev pub at_subscription : ℕ → (Subscription → Subscription) → Subscription → Subscription
+at_subscription number f sub = if sub.number == number then f sub else sub
+
+abbrev pub with_subscription : ℕ → (Subscription → Subscription) → State → State
+with_subscription number f s = record s { subscriptions = map (at_subscription number f) s.subscriptions }
+
+-- there is no last text, or it differs
+abbrev pub is_new : Option (List ℕ) → List ℕ → Bool
+is_new None text = true
+is_new (Some last) text = not (same_text last text)
+
+abbrev pub remembers : List ℕ → Subscription → Subscription
+remembers text sub = record sub { last = Some text }
+
+abbrev pub moves_to : Val → Subscription → Subscription
+moves_to cursor sub = record sub { cursor = cursor }
+
+abbrev pub queue_next : Subscription → List ℕ → State → Effect
+queue_next sub payload s = queue_text sub.connection (next_text sub.id payload) s
+
+-- A live query's result is queued first and then only on change.
+abbrev pub publish_live : Subscription → Result → State → Effect
+publish_live sub r s = if is_new sub.last r.text then queue_next sub r.text (with_subscription sub.number (remembers r.text) s) else nothing s
+
+-- A query that is answered once is answered, completed and ended.
+abbrev pub publish_once : Subscription → Result → State → Effect
+publish_once sub r s =
+    and_then (queue_next sub r.text s) (λ t. queue_text sub.connection (complete_text sub.id) (end_where (is_subscription sub.number) t))
+
+-- A stream's next rows are queued where there are any, and its cursor moves to the last of them.
+abbrev pub publish_stream : Subscription → Result → State → Effect
+publish_stream sub r s = if nat_lt 0 r.rows then queue_next sub r.text (with_subscription sub.number (moves_to r.last) s) else nothing s
+
+abbrev pub publish_kind : QueryKind → Subscription → Result → State → Effect
+publish_kind Live sub r s = publish_live sub r s
+publish_kind Once sub r s = publish_once sub r s
+publish_kind Stream sub r s = publish_stream sub r s
+
+-- what one member is told: the result of its own query and cursor on the job's database
+abbrev pub publish_member : Meta → Database → State → Option Subscription → Effect
+publish_member meta db s (Some sub) = if sub.live then publish_kind sub.query.kind sub (result meta.tables sub.query sub.cursor db) s else nothing s
+publish_member meta db s None = nothing s
+
+-- the members in order; one that is no longer live at its turn is passed over
+abbrev pub publish_members : Meta → Database → List Member → State → Effect
+publish_members meta db [] s = nothing s
+publish_members meta db (m ∷ ms) s = and_then (publish_member meta db s (subscription_at m.subscription s.subscriptions)) (λ t. publish_members meta db ms t)
+
+abbrev pub close_job : ℕ → Effect → Effect
+close_job number e = record e { state = record e.state { jobs = without_job number e.state.jobs } }
+
+-- the database of a job: that after as many transactions as its version says
+abbrev pub database_of : Meta → State → Job → Database
+database_of meta s job = snapshot meta.tables s.transactions job.version
+
+abbrev pub publish : Meta → ℕ → State → Option Job → Step
+publish meta number s (Some job) = with_reply (Published job.version) (close_job number (publish_members meta (database_of meta s job) job.members s))
+publish meta number s None = silent s NotOpen
