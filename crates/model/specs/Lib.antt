@@ -8,4 +8,5 @@ pub mod Connections
 pub mod Batches
 pub mod Publication
 pub mod Run
+pub mod Shown
 pub mod Worked

@@ -1,0 +1,13 @@
+use scalar_val::{Bytes, List};
+
+/// A text that was queued for a connection.
+#[derive(Debug, Drop)]
+pub struct Queued {
+    /// The connection's number.
+    pub conn: u32,
+    /// The whole text of one message of the server.
+    pub text: Bytes,
+}
+
+/// The texts that one event queued, in order.
+pub type QueuedList = List<Queued>;
