@@ -1,10 +1,12 @@
 //! The values that columns hold, the texts and lists that the other crates are made of, and the order of values.
 #![tactic(auto)]
 
+mod json_text;
 mod list;
 mod text;
 mod val;
 
+pub use json_text::{write_json, write_quoted};
 pub use list::List;
 pub use text::{Bytes, NoMemory, Str};
 pub use val::{Kind, Val, cmp, copy_val, order_laws};
