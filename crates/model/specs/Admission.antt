@@ -7,7 +7,7 @@ use Rattle.std.specs.Ordering.{nat_cmp, match_ordering}
 use Rattle.std.specs.Cmp.Lexicographic.{slice_cmp}
 use Rattle.scalar_val.specs.declared.val.Val.{Val}
 use Rattle.scalar_val.specs.declared.val.Val.TheVariants as val
-use Rattle.model.specs.Values.{same_text}
+use Rattle.model.specs.Values.{same_text, pieces}
 use Rattle.model.specs.Rows.{Table, Permission, Condition, Always, IsSession}
 use Rattle.model.specs.Queries.{Query, Selection, Columns, SessionValue, SubscriptionWord, Live, spaced, table_place, slice_at, filter_of}
 use Rattle.model.specs.Messages.{Header, Request}
@@ -66,13 +66,8 @@ abbrev pub identity : Meta → List Header → Identity
 identity meta headers = if is_trusted meta headers then trusted headers else unauthorized meta.unauthorized_role
 
 -- the pieces of a text between single spaces
-abbrev pub onto_first : ℕ → List (List ℕ) → List (List ℕ)
-onto_first b [] = (b ∷ []) ∷ []
-onto_first b (w ∷ ws) = (b ∷ w) ∷ ws
-
 abbrev pub words : List ℕ → List (List ℕ)
-words [] = [] ∷ []
-words (b ∷ bs) = if b == 32 then [] ∷ words bs else onto_first b (words bs)
+words = pieces (λ b. b == 32)
 
 -- the one form of query that is read so far
 abbrev pub query_text : List ℕ → List (List ℕ) → List ℕ

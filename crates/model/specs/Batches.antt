@@ -1,11 +1,11 @@
 -- Pollers, cohorts and batches (Hasura's live query architecture, "Multiplexing"), as relations on subscriptions.
 -- The numbering of jobs and the rules of these events are this project's own.
-use Rattle.std.specs.Prelude.{ℕ, ◌+◌, Bool, true, false, ◌&&◌, ◌||◌, not, ◌==◌, if◌then◌else◌, Option, Some, None, List, [], ◌∷◌, ◌++◌, length, take, map, filter, find}
+use Rattle.std.specs.Prelude.{ℕ, ◌+◌, Bool, ◌&&◌, ◌||◌, not, ◌==◌, if◌then◌else◌, Option, Some, None, List, [], ◌∷◌, ◌++◌, length, take, map, filter, find}
 use Rattle.std.specs.List.{list_any, filter_map, position_from}
 use Rattle.model.specs.Values.{same_value}
 use Rattle.model.specs.Queries.{same_poller, same_binding}
 use Rattle.model.specs.Admission.{Meta}
-use Rattle.model.specs.State.{State, Subscription, Member, Job, Step, Reply, Ticked, Nobody, Taken, NotOpen, Abandoned, silent}
+use Rattle.model.specs.State.{State, Subscription, Member, Job, Step, Ticked, Nobody, Taken, NotOpen, Abandoned, silent}
 
 -- subscriptions that only differ in variables have one poller
 abbrev pub are_polled_together : Subscription → Subscription → Bool

@@ -6,7 +6,7 @@ use Rattle.model.specs.Values.{same_text}
 use Rattle.model.specs.Messages.{Message, Init, Subscribe, Complete, Ping, Pong, Bad, Request, CloseReason, Invalid, Unauthorized, Forbidden, InitTimeout, TooManyInits, exists_reason, ack_text, pong_text, error_text}
 use Rattle.model.specs.Admission.{Meta, Session, Identity, Allowed, Denied, identity, Admission, Admits, Refuses, Unread, admits}
 use Rattle.model.specs.Queries.{Query}
-use Rattle.model.specs.State.{State, Connection, Phase, Fresh, Acknowledged, Closed, Subscription, Step, Effect, Queued, Close, Reply, ConnectionUnknown, ConnectionKnown, Did, Sent, Empty, Done, silent, with_reply, nothing}
+use Rattle.model.specs.State.{State, Connection, Phase, Fresh, Acknowledged, Closed, Subscription, Step, Effect, ConnectionUnknown, ConnectionKnown, Did, Sent, Empty, Done, silent, nothing}
 
 abbrev pub is_connection : ℕ → Connection → Bool
 is_connection number c = c.number == number

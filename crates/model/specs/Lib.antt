@@ -8,5 +8,10 @@ pub mod Connections
 pub mod Batches
 pub mod Publication
 pub mod Run
+pub mod Forms
+pub mod Built
+pub mod Transcript
+pub mod Script
 pub mod Shown
 pub mod Worked
+pub mod WorkedScript

@@ -1,6 +1,6 @@
 -- What clients say and what servers send (the `graphql-transport-ws` protocol), and the reasons of closes
 -- (RFC 6455, section 5.5: a reason has at most 123 bytes).
-use Rattle.std.specs.Prelude.{ℕ, zero, suc, Bool, ◌&&◌, nat_le, nat_lt, if◌then◌else◌, Option, List, [], ◌∷◌, ◌++◌, length, take, slice_index, codes}
+use Rattle.std.specs.Prelude.{ℕ, zero, suc, Bool, ◌&&◌, nat_le, nat_lt, if◌then◌else◌, Option, List, ◌++◌, length, take, slice_index, codes}
 use Rattle.json.specs.Print.{quoted}
 
 pub record Header : Type 0 where

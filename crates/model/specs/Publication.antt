@@ -1,12 +1,12 @@
 -- What a publication queues (Hasura's live query and streaming subscription documentation).
-use Rattle.std.specs.Prelude.{ℕ, Bool, true, false, not, nat_lt, ◌==◌, if◌then◌else◌, Option, Some, None, List, [], ◌∷◌, ◌++◌, map}
+use Rattle.std.specs.Prelude.{ℕ, Bool, true, not, nat_lt, ◌==◌, if◌then◌else◌, Option, Some, None, List, [], ◌∷◌, ◌++◌, map}
 use Rattle.scalar_val.specs.declared.val.Val.{Val}
 use Rattle.model.specs.Values.{same_text}
 use Rattle.model.specs.Rows.{Database, snapshot}
 use Rattle.model.specs.Queries.{Live, Once, Stream, QueryKind, Result, result}
 use Rattle.model.specs.Messages.{next_text, complete_text}
 use Rattle.model.specs.Admission.{Meta}
-use Rattle.model.specs.State.{State, Subscription, Member, Job, Step, Effect, Reply, NotOpen, Published, silent, with_reply, nothing}
+use Rattle.model.specs.State.{State, Subscription, Member, Job, Step, Effect, NotOpen, Published, silent, with_reply, nothing}
 use Rattle.model.specs.Connections.{queue_text, end_where}
 use Rattle.model.specs.Batches.{is_subscription, subscription_at, without_job}
 

@@ -1,11 +1,12 @@
 -- Queries, their canonical texts and cohorts, and their results. Results follow GraphQL October 2021, section 6
 -- ("Execution"), with each selected table as a list of its rows in key order (Hasura's documentation, "Queries").
-use Rattle.std.specs.Prelude.{ℕ, Bool, true, false, ◌&&◌, ◌==◌, Option, Some, None, List, [], ◌∷◌, ◌++◌, length, map, filter, find, slice_get, codes}
+use Rattle.std.specs.Prelude.{ℕ, Bool, true, false, ◌&&◌, Option, Some, None, List, [], ◌∷◌, ◌++◌, length, map, filter, find, slice_get, codes}
 use Rattle.std.specs.List.{flat_map, position_from}
 use Rattle.json.specs.Print.{quoted}
 use Rattle.scalar_val.specs.declared.val.Val.{Val}
 use Rattle.scalar_val.specs.declared.val.Val.TheVariants as val
-use Rattle.model.specs.Values.{same_text, same_value, same_values, joined, val_text}
+use Rattle.scalar_val.specs.ValText.{val_text}
+use Rattle.model.specs.Values.{same_text, same_value, same_values, joined}
 use Rattle.model.specs.Rows.{Row, Database, Table, Permission, Condition, Always, IsSession, cell}
 
 pub data Word : Type 0 where

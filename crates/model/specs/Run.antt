@@ -1,9 +1,9 @@
 -- One event, and whole runs. This project's own.
-use Rattle.std.specs.Prelude.{ℕ, ◌+◌, List, [], ◌∷◌, ◌++◌, length, filter}
+use Rattle.std.specs.Prelude.{◌+◌, List, [], ◌∷◌, ◌++◌, length, filter}
 use Rattle.model.specs.Rows.{Database, Transaction, Applied, Accepted, Refused, apply, snapshot}
 use Rattle.model.specs.Messages.{Bad}
 use Rattle.model.specs.Admission.{Meta}
-use Rattle.model.specs.State.{State, Event, Connect, Receive, Binary, Timeout, Gone, Commit, Tick, Take, Publish, Abandon, Drain, Report, Skip, Reply, Did, Committed, Declined, Reported, Skipped, Counts, Step, Queued, opening, silent, with_reply}
+use Rattle.model.specs.State.{State, Event, Connect, Receive, Binary, Timeout, Gone, Commit, Tick, Take, Publish, Abandon, Drain, Report, Skip, Did, Committed, Declined, Reported, Skipped, Counts, Step, opening, silent, with_reply}
 use Rattle.model.specs.Connections.{connection_at, connect, on_known, receive, timed_out, gone, drained}
 use Rattle.model.specs.Batches.{tick, take_job, abandon, job_at}
 use Rattle.model.specs.Publication.{publish}

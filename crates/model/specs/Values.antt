@@ -1,12 +1,9 @@
--- Tests on texts and values, and the JSON text of a value (RFC 8259, with the shortest escapes).
-use Rattle.std.specs.Prelude.{ℕ, Bool, true, false, ◌==◌, List, [], ◌∷◌, ◌++◌, codes}
-use Rattle.std.specs.Fmt.{signed_decimal}
+-- Tests on texts and values, texts joined by commas, and the pieces of a text.
+use Rattle.std.specs.Prelude.{ℕ, Bool, ◌==◌, if◌then◌else◌, List, [], ◌∷◌, ◌++◌}
 use Rattle.std.specs.Ordering.{is_eq}
 use Rattle.std.specs.List.{flat_map}
 use lib.Pointwise.{pointwise}
-use Rattle.json.specs.Print.{quoted}
 use Rattle.scalar_val.specs.declared.val.Val.{Val}
-use Rattle.scalar_val.specs.declared.val.Val.TheVariants as val
 use Rattle.scalar_val.specs.ValOrder.{val_cmp}
 
 abbrev pub same_text : List ℕ → List ℕ → Bool
@@ -23,15 +20,11 @@ abbrev pub joined : List (List ℕ) → List ℕ
 joined [] = []
 joined (t ∷ ts) = t ++ flat_map (λ u. 44 ∷ u) ts
 
-abbrev pub bool_text : Bool → List ℕ
-bool_text true = codes "true"
-bool_text false = codes "false"
+-- the pieces of a text between the bytes that pass a test
+abbrev pub onto_first : ℕ → List (List ℕ) → List (List ℕ)
+onto_first b [] = (b ∷ []) ∷ []
+onto_first b (w ∷ ws) = (b ∷ w) ∷ ws
 
--- the value as JSON
-abbrev pub val_text : Val → List ℕ
-val_text val.Null = codes "null"
-val_text (val.Bool b) = bool_text b
-val_text (val.Int z) = signed_decimal z
-val_text (val.Big z) = signed_decimal z
-val_text (val.Text t) = quoted t
-val_text (val.Uuid n) = []
+abbrev pub pieces : (ℕ → Bool) → List ℕ → List (List ℕ)
+pieces cuts [] = [] ∷ []
+pieces cuts (b ∷ bs) = if cuts b then [] ∷ pieces cuts bs else onto_first b (pieces cuts bs)

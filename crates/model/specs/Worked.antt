@@ -1,10 +1,10 @@
 -- Worked examples, which compute.
-use Rattle.std.specs.Prelude.{◌≡◌, ℕ, pos, refl, Some, None, List, [], ◌∷◌, ◌++◌, map, codes}
+use Rattle.std.specs.Prelude.{◌≡◌, ℕ, pos, refl, None, List, [], ◌∷◌, ◌++◌, map, codes}
 use Rattle.std.specs.Fmt.{digits}
 use Rattle.std.specs.List.{flat_map}
 use Rattle.json.specs.Print.{escape_byte}
 use Rattle.scalar_val.specs.declared.val.Val.TheVariants as val
-use Rattle.model.specs.Rows.{Table, Row, Transaction, Insert, Update, Always, IsSession}
+use Rattle.model.specs.Rows.{Table, Row, Transaction, Insert, Update, IsSession}
 use Rattle.model.specs.Messages.{Init, Subscribe, Complete}
 use Rattle.model.specs.Admission.{Meta}
 use Rattle.model.specs.State.{Event, Connect, Receive, Commit, Tick, Take, Publish, Abandon, Reply, Did, Ticked, Nobody, Taken, NotOpen, Published, Committed, Abandoned, Queued}
