@@ -1,7 +1,7 @@
 -- Who a client is, by its headers (Hasura's documentation, "Session variables"), and whether a subscribe is admitted.
 -- The rules of secrets, of the unauthorized role and of refusals are this project's own.
 use Rattle.std.specs.Prelude.{ℕ, ◌+◌, ◌-◌, ◌*◌, Bool, true, false, ◌&&◌, not, ◌==◌, if◌then◌else◌, Option, Some, None, List, [], ◌∷◌, ◌++◌, length, map, find, filter, take, drop, unwrap_or, slice_get, pos, codes}
-use Rattle.std.specs.List.{list_all, list_any, fold}
+use Rattle.std.specs.List.{list_all, list_any, fold, starts_with}
 use Rattle.std.specs.Char.{to_ascii_lowercase}
 use Rattle.std.specs.Ordering.{nat_cmp, match_ordering}
 use Rattle.std.specs.Cmp.Lexicographic.{slice_cmp}
@@ -58,10 +58,14 @@ abbrev pub unauthorized : Option (List ℕ) → Identity
 unauthorized (Some role) = Allowed (record { role = role; variables = [] })
 unauthorized None = Denied
 
-abbrev pub trusted : List Header → Identity
-trusted headers = Allowed (record { role = unwrap_or (header (codes "x-hasura-role") headers) (codes "admin"); variables = headers })
+-- the headers that begin with `x-hasura-`, other than the secret
+abbrev pub is_variable : Header → Bool
+is_variable h = starts_with ◌==◌ (lowered h.name) (codes "x-hasura-") && not (is_named (codes "x-hasura-admin-secret") h)
 
--- A trusted request has the role of its header, by default `admin`, and its headers as session variables.
+abbrev pub trusted : List Header → Identity
+trusted headers = Allowed (record { role = unwrap_or (header (codes "x-hasura-role") headers) (codes "admin"); variables = filter is_variable headers })
+
+-- A trusted request has the role of its header, by default `admin`, and session variables.
 abbrev pub identity : Meta → List Header → Identity
 identity meta headers = if is_trusted meta headers then trusted headers else unauthorized meta.unauthorized_role
 
