@@ -1,3 +1,4 @@
 pub mod formers
+pub mod Spellings
 pub mod ValOrder
 pub mod ValText

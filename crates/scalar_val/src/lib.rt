@@ -3,12 +3,14 @@
 
 mod json_text;
 mod list;
+mod spelling;
 mod steps;
 mod text;
 mod val;
 
 pub use json_text::{write_json, write_quoted};
 pub use list::List;
+pub use spelling::{ReadFault, fit_scalar, read_text};
 pub use steps::Steps;
 pub use text::{Bytes, NoMemory, Str};
 pub use val::{Kind, Val, cmp, copy_val, order_laws};
