@@ -2,16 +2,26 @@
 //! to what the system has.
 #![tactic(auto)]
 
+mod clock;
+mod link;
+mod listener;
 mod memory;
+mod opening;
 mod schedule;
 mod sink;
 mod source;
 mod standard;
+mod work;
 
+pub use clock::Clock;
+pub use link::{Link, LinkIn, LinkItem, LinkOut, Sent};
+pub use listener::{Accepted, Listener};
 pub use memory::{MemSink, MemSource};
+pub use opening::{Opened, Opens, Parts, Splits};
 pub use sink::{Put, Sink};
 pub use source::{Got, Source};
 pub use standard::{StdSink, StdSource};
+pub use work::{Spawner, Work};
 
 #[cfg(test)]
 mod tests;
