@@ -4,7 +4,11 @@
 
 mod clock;
 mod link;
+mod list_clock;
 mod listener;
+mod mem_link;
+mod mem_listener;
+mod mem_spawner;
 mod memory;
 mod opening;
 mod schedule;
@@ -15,7 +19,11 @@ mod work;
 
 pub use clock::Clock;
 pub use link::{Link, LinkIn, LinkItem, LinkOut, Sent};
+pub use list_clock::ListClock;
 pub use listener::{Accepted, Listener};
+pub use mem_link::MemLink;
+pub use mem_listener::MemListener;
+pub use mem_spawner::MemSpawner;
 pub use memory::{MemSink, MemSource};
 pub use opening::{Opened, Opens, Parts, Splits};
 pub use sink::{Put, Sink};
