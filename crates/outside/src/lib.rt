@@ -15,6 +15,9 @@ mod schedule;
 mod sink;
 mod source;
 mod standard;
+mod sys_clock;
+mod tcp_port;
+mod thread_spawner;
 mod work;
 
 pub use clock::Clock;
@@ -29,6 +32,9 @@ pub use opening::{Opened, Opens, Parts, Splits};
 pub use sink::{Put, Sink};
 pub use source::{Got, Source};
 pub use standard::{StdSink, StdSource};
+pub use sys_clock::SysClock;
+pub use tcp_port::TcpPort;
+pub use thread_spawner::ThreadSpawner;
 pub use work::{Spawner, Work};
 
 #[cfg(test)]

@@ -1,4 +1,5 @@
-ghost use Rattle.std.specs.Prelude.{◌≡◌, ◌≢◌, [], Some, IfSome};
+ghost use Rattle.std.specs.Prelude.{◌≡◌, ◌≢◌, List, [], Some, IfSome, length};
+ghost use Rattle.outside.specs.declared.link.LinkItem.{LinkItem};
 ghost use Rattle.outside.specs.Links.{Sends};
 
 use crate::link::{Link, LinkIn, LinkItem, LinkOut, Sent};
@@ -42,7 +43,9 @@ impl MemLink {
     }
 
     /// How many items are still to come.
-    pub fn left(&self) -> usize {
+    pub fn left(&self) -> usize
+        ensures { (items : List LinkItem) → ⟦<MemLink as Link>⟧.coming self.now ≡ Some items → result ≡ length items }
+    {
         self.coming.len()
     }
 

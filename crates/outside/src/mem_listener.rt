@@ -1,4 +1,4 @@
-ghost use Rattle.std.specs.Prelude.{◌≡◌, Some, None};
+ghost use Rattle.std.specs.Prelude.{◌≡◌, List, Some, None, length};
 
 use crate::listener::{Accepted, Listener};
 use crate::schedule::Schedule;
@@ -36,7 +36,9 @@ impl<C> MemListener<C> {
     }
 
     /// How many connections are left.
-    pub fn left(&self) -> usize {
+    pub fn left(&self) -> usize
+        ensures { (connections : List C) → ⟦<MemListener<C> as Listener>⟧.coming self.now ≡ Some connections → result ≡ length connections }
+    {
         self.coming.len()
     }
 

@@ -6,7 +6,7 @@ use std::sync::Wait;
 
 /// Something to be run once, by whoever it is handed to.
 pub trait Work: Send + Drop {
-    type Out: Drop;
+    type Out;
 
     /// Which answers suit it.
     ghost suits: { Self → Self.Out → Type 0 };
