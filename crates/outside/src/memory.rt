@@ -1,5 +1,6 @@
 ghost use Rattle.std.specs.Prelude.{◌≡◌, ◌≤◌, [], Some, None, drop, vec_len};
 
+use crate::opening::{Parts, Splits};
 use crate::schedule::Schedule;
 use crate::sink::{Put, Sink};
 use crate::source::{Got, Source};
@@ -122,5 +123,22 @@ impl Sink for MemSink {
             Ok(()) => Put::Bytes(bytes.len()),
             Err(_) => Put::NoMemory,
         }
+    }
+}
+
+impl Splits for (MemSource, MemSink) {
+    type Source = MemSource;
+
+    type Sink = MemSink;
+
+    ghost left = { λ pair. ⟦<MemSource as Source>⟧.left pair.0 };
+
+    ghost written = { λ pair. ⟦<MemSink as Sink>⟧.written pair.1 };
+
+    ghost never_fails = { λ pair. ⟦<MemSource as Source>⟧.never_fails pair.0 × ⟦<MemSink as Sink>⟧.never_fails pair.1 };
+
+    fn split(self) -> Parts<MemSource, MemSink> {
+        let (source, sink) = self;
+        Parts::Both(source, sink)
     }
 }

@@ -41,4 +41,12 @@ impl Schedule {
         }
         fails
     }
+
+    /// Counts a fault that no number asked for.
+    pub fn count_fault(&mut self)
+        ensures fault { self.new ≡ record self.old { faults = next_count self.old.faults } }
+        ensures later { self.old.faults ≤ self.new.faults }
+    {
+        self.faults = self.faults.saturating_add(1);
+    }
 }
