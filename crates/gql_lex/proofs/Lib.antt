@@ -1,0 +1,3 @@
+pub mod StringLemmas
+pub mod RunLemmas
+pub mod SpanLemmas

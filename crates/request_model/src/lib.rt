@@ -1,0 +1,14 @@
+//! The plain data types of GraphQL requests: lexemes, documents and flat selections. They have no logic. What a text
+//! of a request means is defined in `specs/`, over these types.
+#![tactic(auto)]
+
+mod document;
+mod flat;
+mod token;
+
+pub use document::{
+    Definition, DefinitionList, Directive, DirectiveList, Document, GPair, GPairs, GValue,
+    GValueList, OpWord, Selection, SelectionList, TypeRef, VarDef, VarDefList,
+};
+pub use flat::{Flat, FlatField, FlatFieldList, StrList, Word};
+pub use token::{Token, TokenKind};
