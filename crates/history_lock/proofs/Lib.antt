@@ -1,0 +1,5 @@
+pub mod Histories
+pub mod Homes
+pub mod Keeps
+pub mod Seen
+pub mod PassViews

@@ -1,0 +1,1 @@
+use Rattle.history_lock.proofs.steps.take.Goals as goal
