@@ -131,3 +131,11 @@ module _ {E : Type 0} where
   pub length_events : (zs : List (Entry E)) → length (events zs) ≡ length zs
   length_events [] = refl
   length_events (z ∷ zs) = ap suc (length_events zs)
+
+  -- what a pass has seen beyond its list changes nothing of its own entries
+  pub own_extends : (n : ℕ) (xs ys : List (Entry E)) → Extends n xs ys → own n ys ≡ own n xs
+  own_extends n xs ys g = ap (own n) g.whole ∙ own-append n xs g.rest ∙ ap (λ l. own n xs ++ l) g.others ∙ append-nil (own n xs)
+
+  -- a pass sees the history, and gives one event
+  pub own_given : (n : ℕ) (xs ys : List (Entry E)) (e : E) → Extends n xs ys → own n (ys ++ entry n e ∷ []) ≡ own n xs ++ entry n e ∷ []
+  own_given n xs ys e g = own-append n ys (entry n e ∷ []) ∙ (λ i. own_extends n xs ys g i ++ own_mine n e i)

@@ -17,3 +17,6 @@ pub use pass::Pass;
 pub use stands::{Made, Stands};
 pub use turn::Turn;
 
+#[cfg(test)]
+mod tests;
+
