@@ -108,6 +108,10 @@ module _ {S E G : Type 0} (stands : S → List E → Type 0) (basis_of : S → G
   words_at : (s : St) (r : Rule s) → (get_or s.words 0 0 ≡ r.tickets) × (get_or s.words 1 0 ≡ length r.log) × (get_or s.words 2 0 ≡ r.home)
   words_at s r = (ap (λ (ws : List ℕ). get_or ws 0 0) r.words, ap (λ (ws : List ℕ). get_or ws 1 0) r.words, ap (λ (ws : List ℕ). get_or ws 2 0) r.words)
 
+  -- a pass whose ticket is the number of entries that it has seen has seen the whole history
+  pub whole_at_turn : (s : St) (r : Rule s) (id : ℕ) (v : V) (t : ℕ) → get_elem? s.views id ≡ some v → v.spent ≡ false → v.ticket ≡ Some t → length v.seen ≡ t → r.log ≡ v.seen
+  whole_at_turn s r id v t at living ticket long = let f = r.each id v at in let k = (f.waits t ticket).0 in extends_whole id v.seen r.log (f.seen living) (omega arith)
+
   -- a pass that is not spent sees the whole history
   fits_seen : (s : St) (r : Rule s) (id : ℕ) (v : V) → Fits r.log r.tickets Basis id v → Fits r.log r.tickets Basis id (with_seen v r.log)
   fits_seen s r id v f = record {
@@ -214,8 +218,7 @@ module _ {S E G : Type 0} (stands : S → List E → Type 0) (basis_of : S → G
   }
 
   out_of : (s : St) (r : Rule s) (id : ℕ) (v : V) (x : S) → get_elem? s.views id ≡ some v → AtHome stands basis_of Basis r.log x → Out stands basis_of v x
-  out_of s r id v x at h t living q long = let f = r.each id v at in let k = (f.waits t q).0 in
-      let same : r.log ≡ v.seen = extends_whole id v.seen r.log (f.seen living) (omega arith) in
+  out_of s r id v x at h t living q long = let f = r.each id v at in let same = whole_at_turn s r id v t at living q long in
       subst (λ (z : G × List (Entry E)). AtHome stands basis_of z.0 z.1 x) (λ i. (sym (f.based living) i, same i)) h
 
   pub takes_out : (slots id : ℕ) (me : Sat S E G) → Allows Rule slots id me 2 (λ x. either (eqb x 1) 0 x) (Takes stands basis_of (step slots 2 1 0 none) me)
@@ -272,7 +275,7 @@ module _ {S E G : Type 0} (stands : S → List E → Type 0) (basis_of : S → G
   raise_rule s r id cs v e t new at living number ticket long up =
       let f = r.each id v at in
       let k = f.waits t ticket in
-      let same : r.log ≡ v.seen = extends_whole id v.seen r.log (f.seen living) (omega arith) in
+      let same : r.log ≡ v.seen = whole_at_turn s r id v t at living ticket long in
       let one : List (Entry E) = entry id e ∷ [] in
       let log : List (Entry E) = r.log ++ one in
       let whole : log ≡ v.seen ++ one = ap (λ l. l ++ one) same in
@@ -320,7 +323,7 @@ module _ {S E G : Type 0} (stands : S → List E → Type 0) (basis_of : S → G
       let w : V = with_ticket (with_seen v (v.seen ++ entry n e ∷ [])) None in
       let x : ℕ = get_or s.words 1 0 in
       let here : x ≡ length r.log = (words_at s r).1 in
-      let same : r.log ≡ v.seen = (let k = (f.waits t ticket).0 in extends_whole id v.seen r.log (f.seen living) (omega arith)) in
+      let same : r.log ≡ v.seen = whole_at_turn s r id v t at living ticket long in
       let few = (f.waits t ticket).1 in let most = r.most in
       let up : (x + 1) % 2 ^ 64 ≡ t + 1 = omega (arith, ap length same) in (
         w,

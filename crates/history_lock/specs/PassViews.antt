@@ -5,9 +5,13 @@ use Rattle.atomic_table.specs.Table.{Me}
 use Rattle.history_lock.specs.declared.known.Entry.{Entry}
 use Rattle.history_lock.specs.declared.known.Known.{Known}
 
+-- Which lock it is. No two locks that there are at one time have the same
+abbrev pub LockId : Type 0
+LockId = TableId
+
 -- which lock it is of, its number, the data of the lock's first state, the entries that it has seen, and whether it holds the turn
 pub record PassView (E G : Type 0) : Type 0 where
-  pub lock : TableId
+  pub lock : LockId
   pub number : ℕ
   pub basis : G
   pub seen : List (Entry E)
@@ -19,7 +23,7 @@ Slots None seen slots = slots ≡ []
 Slots (Some t) seen slots = (t ≡ length seen) × (slots ≡ (0, None) ∷ [])
 
 module _ {S E G : Type 0} where
-  abbrev pub pass_view : TableId → Me (Option S) (Known E G) → PassView E G
+  abbrev pub pass_view : LockId → Me (Option S) (Known E G) → PassView E G
   pass_view lock me = record { lock = lock; number = unwrap_or me.0.number 0; basis = me.0.basis; seen = me.0.seen; has_turn = is_some me.0.ticket }
 
   -- what holds of each pass between two calls

@@ -3,13 +3,13 @@
 //! A thread steps by a pass, which has a number and the entries of the history that it has seen. It takes the state by `turn`, lets it make one event, and gives it back by `give`, which adds that event with the pass's number. `docs/history_lock.md` tells how, and what is proved.
 #![tactic(auto)]
 
-pub mod known;
-pub mod lock;
-pub mod pass;
-pub mod plays;
-pub mod stands;
-pub mod steps;
-pub mod turn;
+mod known;
+mod lock;
+mod pass;
+mod plays;
+mod stands;
+mod steps;
+mod turn;
 
 pub use known::{Entry, Known};
 pub use lock::{HistoryLock, Spent};
@@ -19,4 +19,3 @@ pub use turn::Turn;
 
 #[cfg(test)]
 mod tests;
-

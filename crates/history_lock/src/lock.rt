@@ -19,7 +19,7 @@ use std::sync::Wait;
 #[derive(Clone, Copy, Debug, PartialEq, Eq)]
 pub struct Spent;
 
-/// A lock round a state, whose history all its passes share. Contracts see which lock it is.
+/// A lock round a state, whose history all its passes share. Contracts see it as a `LockId`, which lock it is.
 #[derive(Drop)]
 pub struct HistoryLock<S: Stands> {
     table: StateTable<S>,
@@ -27,9 +27,10 @@ pub struct HistoryLock<S: Stands> {
 
 impl<S: Stands> Model for HistoryLock<S> {
     ghost use Rattle.std.specs.Prelude.{◌≡◌};
-    ghost use Rattle.atomic_table.specs.Seated.{TableId, table_id_coded};
+    ghost use Rattle.atomic_table.specs.Seated.{table_id_coded};
+    ghost use Rattle.history_lock.specs.PassViews.{LockId};
 
-    ghost Value = { TableId };
+    ghost Value = { LockId };
 
     ghost coded = { table_id_coded };
 

@@ -80,11 +80,7 @@ pub(crate) fn wait_for<S: Stands, R: Wait>(
 }
 
 // Takes the state out of its slot, if it is there.
-fn take_out<S: Stands>(
-    table: &StateTable<S>,
-    seat: &mut PassSeat<S>,
-    ticket: u64,
-) -> Option<S>
+fn take_out<S: Stands>(table: &StateTable<S>, seat: &mut PassSeat<S>, ticket: u64) -> Option<S>
     requires table { IsOf table.now.shared.table_id seat.old × (seat.old.me.0.spent ≡ false) }
     requires ticket { (seat.old.me.0.ticket ≡ Some ticket) × (length (seen seat.old) ≡ ticket) × (seat.old.me.1 ≡ []) }
     ensures same { seat.new.table_id ≡ seat.old.table_id }

@@ -96,7 +96,10 @@ fn in_two_threads<R: Threads + Wait + Sync>(
             ensures { IfOk result (λ pass. (pass.lock ≡ lock.entry.now) × (pass.has_turn ≡ false)) }
         {
             let first = scope.spawn_with(OfLock(lock), move || take_turns(rt, lock, first, times))?;
-            let second = scope.spawn_with(OfLock(lock), move || take_turns(rt, lock, second, times))?;
+            let second = scope.spawn_with(
+                OfLock(lock),
+                move || take_turns(rt, lock, second, times),
+            )?;
             let mut pass = first.join(rt);
             lock.join(&mut pass, second.join(rt));
             Ok(pass)

@@ -1,4 +1,4 @@
-use Rattle.std.proofs.Common.{◌≡◌, ℕ, [], ◌∷◌, ◌++◌, sym, ap, ◌∙◌, subst}
+use Rattle.std.proofs.Common.{ℕ, [], ◌∷◌, ◌++◌, ap, ◌∙◌}
 use Rattle.history_lock.specs.History.{entry, own}
 use Rattle.history_lock.proofs.Histories.{own_given}
 use Rattle.history_lock.proofs.tests.take_turn.Goals as goal

@@ -1,1 +1,0 @@
-use Rattle.history_lock.proofs.steps.take.Goals as goal
