@@ -6,6 +6,8 @@ mod line;
 mod metadata;
 mod number;
 mod parts;
+#[cfg(test)]
+mod tests;
 mod transaction;
 mod transcript;
 

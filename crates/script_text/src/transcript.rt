@@ -136,5 +136,6 @@ fn write_one(out: &mut Vec<u8>, one: &Queued) -> Result<(), NoMemory>
     write_number(out, b">", u64::from(one.conn))?;
     out.push(b' ')?;
     out.extend_from_slice(one.text.as_slice())?;
-    end_line(out)
+    out.extend_from_slice(b"\n")?;
+    Ok(())
 }
