@@ -1,5 +1,5 @@
 use Rattle.std.proofs.Common.{◌≡◌, ℕ, zero, suc, ◌+◌, ◌-◌, ◌<◌, ◌≤◌, Bool, true, false, ◌&&◌, ◌==◌, ltb, if◌then◌else◌, Option, Some, None, List, [], ◌∷◌, ◌++◌, length, drop, take, map, ap, refl, sym, ◌∙◌, ◌↔◌, IsTrue, arith, append_assoc, ℤ}
-use Rattle.std.specs.List.{list_all, flat_map, starts_with}
+use Rattle.std.specs.List.{list_all, starts_with}
 use Rattle.std.proofs.lemmas.Bool.Decides.{nat_tests}
 use Rattle.std.proofs.lemmas.List.{append-nil, length-map, length-take-le, take_all}
 use Rattle.model.specs.Values.{same_text, joined}
@@ -10,7 +10,7 @@ use Rattle.model.specs.Forms.{insert_text, insert_of, rows_of, is_int, transacti
 use Rattle.model.specs.Shown.{transaction_of}
 use Rattle.model.specs.declared.change.Change.{Change}
 use Rattle.script_text.specs.Inserts.{separated, is_nil, with_rows}
-use Rattle.script_text.proofs.Tests.{first_false, second_false, equal_true, unequal, was_false, was_true, none_where}
+use Rattle.script_text.proofs.Choices.{first_false, second_false, equal_true, unequal, was_false, was_true, none_where}
 
 same_byte : (a b : ℕ) → (a == b) ≡ (b == a)
 same_byte a b = grind (arith, nat_tests)

@@ -3,9 +3,9 @@ use Rattle.std.specs.List.{list_all, before_first}
 use Rattle.std.proofs.lemmas.List.Folds.{list_all-append}
 use Rattle.model.specs.Values.{pieces}
 use Rattle.model.specs.Forms.{integer_of, is_int}
-use Rattle.script_text.specs.Inserts.{integers_in, AddsInteger}
+use Rattle.script_text.specs.Inserts.{integers_in}
 use Rattle.script_text.specs.Parts.{is_gap}
-use Rattle.script_text.proofs.Tests.{first_false, second_false, both_true, none_where}
+use Rattle.script_text.proofs.Choices.{first_false, second_false, both_true, none_where}
 use Rattle.script_text.proofs.Pieces.{pieces-first}
 
 kept-cons : (kept : Bool) (p : List ℕ) (ps : List (List ℕ)) → map integer_of (cond kept (p ∷ ps) ps) ≡ map integer_of (cond kept (p ∷ []) []) ++ map integer_of ps

@@ -1,11 +1,11 @@
-use Rattle.std.proofs.Common.{◌≡◌, ℕ, zero, suc, ◌+◌, ◌^◌, ◌<◌, ◌≤◌, Bool, true, false, ◌&&◌, ltb, if◌then◌else◌, Some, None, List, [], ◌∷◌, get_or, length, take, drop, refl, ap, sym, ◌∙◌, ◌==◌, arith}
+use Rattle.std.proofs.Common.{◌≡◌, ℕ, zero, suc, ◌+◌, ◌^◌, ◌<◌, ◌≤◌, Bool, true, false, ltb, if◌then◌else◌, Some, None, List, [], ◌∷◌, get_or, length, take, drop, refl, ap, sym, ◌∙◌, ◌==◌, arith}
 use Rattle.std.specs.Bool.{MatchBool}
 use Rattle.std.specs.List.{position, position_or_len}
 use Rattle.std.specs.Str.{IsAscii, IsNotAscii}
 use Rattle.model.specs.Admission.{Meta}
 use Rattle.model.specs.Forms.{read_message}
 use Rattle.model.specs.Script.{is_ascii, is_space, read_receive, receive_line, read_number, read_line, read_event, Passed}
-use Rattle.script_text.proofs.Tests.{first_false, second_false, both_true, below_true, below_false, differs}
+use Rattle.script_text.proofs.Choices.{first_false, second_false, both_true, below_true, below_false, differs}
 use Rattle.script_text.proofs.Pieces.{some_at}
 
 is_ascii-true : (bs : List ℕ) → IsAscii bs → true ≡ is_ascii bs

@@ -1,15 +1,15 @@
-use Rattle.std.proofs.Common.{◌≡◌, ℕ, ◌+◌, ◌<◌, ◌≤◌, IsTrue, ◌↔◌, Bool, true, false, ◌&&◌, ltb, leb, if◌then◌else◌, Option, Some, None, List, [], ◌∷◌, ◌++◌, length, drop, ap, refl, sym, ◌∙◌, subst, arith, append_assoc, length-append}
+use Rattle.std.proofs.Common.{◌≡◌, ℕ, ◌<◌, IsTrue, ◌↔◌, Bool, true, false, ◌&&◌, ltb, leb, if◌then◌else◌, Option, Some, None, List, [], ◌∷◌, ◌++◌, length, drop, ap, refl, sym, ◌∙◌, subst, arith, append_assoc, length-append}
 use Rattle.std.specs.List.{list_all, before_first}
 use Rattle.std.specs.Str.{IsAscii}
 use Rattle.std.proofs.lemmas.Str.Ascii.{IsAscii-nil, IsAscii-cons}
 use Rattle.std.proofs.lemmas.List.Folds.{list_all-append}
 use Rattle.std.proofs.lemmas.Bool.Decides.{nat_tests}
 use Rattle.model.specs.Values.{pieces, same_text}
-use Rattle.model.specs.Admission.{Meta, are_distinct}
+use Rattle.model.specs.Admission.{are_distinct}
 use Rattle.model.specs.Queries.{place_of}
 use Rattle.model.specs.Forms.{is_name, is_short, is_lower, every_fourth, metadata_of, metadata_text, one_table, table_with_key}
 use Rattle.script_text.specs.Parts.{names, is_quote}
-use Rattle.script_text.proofs.Tests.{first_false, second_false, both_true, first_true, second_true, above_false, within_true, below_true, below_false, was_false, was_true, was_that, none_where, that_where}
+use Rattle.script_text.proofs.Choices.{first_false, second_false, both_true, first_true, second_true, above_false, below_true, was_false, was_true, was_that, none_where, that_where}
 use Rattle.script_text.proofs.Pieces.{pieces-first}
 
 -- a name is in ASCII

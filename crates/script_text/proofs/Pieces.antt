@@ -1,10 +1,10 @@
-use Rattle.std.proofs.Common.{◌≡◌, ℕ, zero, suc, ◌+◌, ◌-◌, ◌<◌, ◌≤◌, Bool, true, false, cond, Option, Some, None, List, [], ◌∷◌, length, drop, take, ap, refl, sym, ◌∙◌, ltb, unwrap_or, slice_get, arith}
-use Rattle.std.specs.List.{position, position_or_len, before_first, after_first, slice_split}
+use Rattle.std.proofs.Common.{◌≡◌, ℕ, zero, suc, ◌+◌, ◌-◌, ◌<◌, ◌≤◌, Bool, cond, Option, Some, None, List, [], ◌∷◌, length, drop, take, ap, refl, sym, ◌∙◌, ltb, arith}
+use Rattle.std.specs.List.{position, position_or_len, before_first, slice_split}
 use Rattle.std.specs.List as std
 use Rattle.std.proofs.lemmas.List.Splits.{slice_split_first, slice_split_none}
 use Rattle.std.proofs.lemmas.List.Sums.{fails_before_first}
 use Rattle.std.proofs.lemmas.Bool.Decides.{nat_tests}
-use Rattle.std.proofs.lemmas.List.{take_all, length-drop}
+use Rattle.std.proofs.lemmas.List.{take_all}
 use Rattle.std.proofs.Math.Seq.{drop-nil}
 use Rattle.model.specs.Values.{pieces, onto_first}
 use Rattle.model.specs.Forms.{piece}

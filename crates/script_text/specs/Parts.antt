@@ -1,9 +1,9 @@
 -- The pieces that are left of a text, and the columns of metadata. This project's own.
-use Rattle.std.specs.Prelude.{ℕ, Bool, ◌&&◌, ◌==◌, nat_le, if◌then◌else◌, Option, Some, None, List, [], length, drop, not}
+use Rattle.std.specs.Prelude.{ℕ, Bool, ◌&&◌, ◌==◌, nat_le, if◌then◌else◌, Option, Some, None, List, [], length, not}
 use Rattle.std.specs.List.{list_all}
 use denote.Ref.{Bor}
 use Rattle.model.specs.Values.{pieces}
-use Rattle.model.specs.Forms.{is_name, every_fourth, is_number_byte}
+use Rattle.model.specs.Forms.{is_name, is_number_byte}
 
 abbrev pub is_quote : ℕ → Bool
 is_quote b = b == 34

@@ -3,7 +3,7 @@ use Rattle.std.specs.List.{before_first}
 use Rattle.model.specs.Values.{pieces}
 use Rattle.model.specs.Forms.{every_fourth, is_name}
 use Rattle.script_text.specs.Parts.{is_quote, pieces_left}
-use Rattle.script_text.proofs.Tests.{was_that}
+use Rattle.script_text.proofs.Choices.{was_that}
 use Rattle.script_text.proofs.Names.{one_more, too_many, no_name, names_kept}
 use Rattle.script_text.proofs.metadata.read_columns.Goals as goal
 

@@ -1,7 +1,7 @@
-use Rattle.std.proofs.Common.{◌-◌, length, ap, sym, refl, ◌∙◌, arith}
+use Rattle.std.proofs.Common.{◌-◌, length, ap, sym, refl, ◌∙◌}
 use Rattle.model.specs.Shown.{table_of, transaction_of}
 use Rattle.script_text.specs.Inserts.{with_rows}
-use Rattle.script_text.proofs.Tests.{was_zero, was_positive}
+use Rattle.script_text.proofs.Choices.{was_zero, was_positive}
 use Rattle.script_text.proofs.Inserts.{rows_of-end, rows_of-spent, no_insert, narrow, one_insert}
 use Rattle.script_text.proofs.transaction.read_inserts.Goals as goal
 

@@ -1,4 +1,4 @@
-use Rattle.std.proofs.Common.{[], ◌∷◌, true, false, subst, sym, ◌∙◌}
+use Rattle.std.proofs.Common.{[], ◌∷◌, subst}
 use Rattle.model.specs.Forms.{integers}
 use Rattle.script_text.specs.Inserts.{AddsInteger, integers_in}
 use Rattle.script_text.specs.Parts.{is_gap, pieces_left}
