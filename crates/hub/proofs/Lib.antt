@@ -1,0 +1,12 @@
+pub mod Laws
+pub mod Stands
+pub mod Pieces
+pub mod Places
+pub mod Same
+pub mod Cohorts
+pub mod Results
+pub mod Events
+pub mod Takes
+pub mod Commits
+pub mod Admits
+pub mod Published

@@ -1,0 +1,9 @@
+pub mod State
+pub mod Jobs
+pub mod Stands
+pub mod Replies
+pub mod Plans
+pub mod Reading
+pub mod Seen
+pub mod Parts
+pub mod Inserts
