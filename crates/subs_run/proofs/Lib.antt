@@ -1,0 +1,11 @@
+pub mod Advances
+pub mod Events
+pub mod Feeds
+pub mod Lines
+pub mod Machine
+pub mod Outcomes
+pub mod Polls
+pub mod Rans
+pub mod Readers
+pub mod Turns
+pub mod Written

@@ -1,0 +1,126 @@
+-- The outcome of a script, by what was read of it.
+use Rattle.std.proofs.Common.{◌≡◌, ◌≢◌, ◌∙◌, ◌≤◌, ◌<◌, ◌+◌, ◌-◌, ◌⊎◌, inl, inr, arith, sym, ap, subst, refl, ℕ, Bool, true, false, Option, Some, None, List, [], ◌∷◌, ◌++◌, length, length-append, append_assoc, append-nil, take, drop}
+use Rattle.std.specs.Prelude.{nat_lt}
+use Rattle.std.proofs.Math.Seq.{take-append-add}
+use Rattle.std.proofs.lemmas.Bool.{lt-ltb, le-ltb}
+use Rattle.std.proofs.lemmas.List.{take_all, take-append-le}
+use Rattle.model.specs.Script.{lines, Reading, Standing, At, Fault, Reason, Size, Ran, limit, ended, fault_at_end, fault_line, outcome, output}
+use Rattle.subs_run.specs.declared.answer.RunEnd.{RunEnd}
+use Rattle.subs_run.specs.declared.answer.RunEnd.TheVariants as run_end
+use Rattle.script_text.specs.Said.{reason_of}
+use Rattle.subs_run.specs.Runs.{ran, EndsAs, IsToldWhole}
+use Rattle.subs_run.specs.Turns.{ClosesAs, EndsOn}
+use Rattle.subs_run.specs.Written.{WritesAll, WritesFront, WritesOn, WritesFrontOn}
+use Rattle.subs_run.proofs.Rans.{ran-fault, ran-longer}
+use Rattle.subs_run.proofs.Written.{on_all, on_front, on_then, front_then, front_longer}
+
+-- what counts of a text with a front within the limit
+take_limit : (a rest : List ℕ) → length a ≤ limit → take limit (a ++ rest) ≡ a ++ take (limit - length a) rest
+take_limit a rest h =
+    let parts : limit ≡ length a + (limit - length a) = omega arith in
+    ap (λ (n : ℕ). take n (a ++ rest)) parts ∙ take-append-add a rest (limit - length a)
+
+-- the transcript of the front is a front of the output
+pub output-longer : (a rest : List ℕ) → length a ≤ limit → (more : List ℕ) × (output (a ++ rest) ≡ (ran a).text ++ more)
+output-longer a rest h =
+    let l = ran-longer a (take (limit - length a) rest) in
+    let fault = fault_line (outcome (a ++ rest)).fault in
+    (l.0 ++ fault, ap (λ (xs : List ℕ). (ran xs).text ++ fault) (take_limit a rest h) ∙ (ap (λ (xs : List ℕ). xs ++ fault) l.1 ∙ append_assoc (ran a).text l.0 fault))
+
+-- what a script ends with, where this is known of it
+pub record HasOutcome (all text : List ℕ) (fault : Option (ℕ × Reason)) : Type 0 where
+  pub text_is : (outcome all).text ≡ text
+  pub fault_is : (outcome all).fault ≡ fault
+
+at_fault : (too_long : Bool) (number : ℕ) (rest : List ℕ) (s : Standing) (line : ℕ) (reason : Reason) → s ≡ Fault line reason → fault_at_end too_long number rest s ≡ Some (line, reason)
+at_fault too_long number rest s line reason e = ap (λ (t : Standing). fault_at_end too_long number rest t) e
+
+-- a line of the front is at fault
+pub outcome-fault : (a rest : List ℕ) (line : ℕ) (reason : Reason) → length a ≤ limit → (ran a).standing ≡ Fault line reason → HasOutcome (a ++ rest) (ran a).text (Some (line, reason))
+outcome-fault a rest line reason h e =
+    let more = take (limit - length a) rest in
+    let same : ran (take limit (a ++ rest)) ≡ ran a = ap ran (take_limit a rest h) ∙ ran-fault a more line reason e in
+    let parts = lines (take limit (a ++ rest)) in
+    record {
+      text_is = ap (λ (r : Ran). r.text) same;
+      fault_is = at_fault (nat_lt limit (length (a ++ rest))) (length parts.0 + 1) parts.1 (ran (take limit (a ++ rest))).standing line reason (ap (λ (r : Ran). r.standing) same ∙ e);
+    }
+
+end_at : (too_long : Bool) (s : Standing) (number : ℕ) (rest : List ℕ) (reading : Reading) → too_long ≡ false → s ≡ At reading → fault_at_end too_long number rest s ≡ ended number rest reading
+end_at too_long s number rest reading e f = ap (λ (b : Bool). fault_at_end b number rest s) e ∙ ap (λ (t : Standing). fault_at_end false number rest t) f
+
+long_at : (too_long : Bool) (s : Standing) (number : ℕ) (rest : List ℕ) (reading : Reading) → too_long ≡ true → s ≡ At reading → fault_at_end too_long number rest s ≡ Some (number, Size)
+long_at too_long s number rest reading e f = ap (λ (b : Bool). fault_at_end b number rest s) e ∙ ap (λ (t : Standing). fault_at_end true number rest t) f
+
+-- the script ends here
+pub outcome-end : (all : List ℕ) (reading : Reading) → length all ≤ limit → (ran all).standing ≡ At reading → HasOutcome all (ran all).text (ended (length (lines all).0 + 1) (lines all).1 reading)
+outcome-end all reading h e =
+    let same : take limit all ≡ all = take_all limit all h in
+    let short : nat_lt limit (length all) ≡ false = le-ltb limit (length all) h in
+    let parts = lines (take limit all) in
+    record {
+      text_is = ap (λ (xs : List ℕ). (ran xs).text) same;
+      fault_is = end_at (nat_lt limit (length all)) (ran (take limit all)).standing (length parts.0 + 1) parts.1 reading short (ap (λ (xs : List ℕ). (ran xs).standing) same ∙ e) ∙ ap (λ (xs : List ℕ). ended (length (lines xs).0 + 1) (lines xs).1 reading) same;
+    }
+
+-- the script is too long
+pub outcome-size : (a rest : List ℕ) (reading : Reading) → length a ≡ limit → 0 < length rest → (ran a).standing ≡ At reading → HasOutcome (a ++ rest) (ran a).text (Some (length (lines a).0 + 1, Size))
+outcome-size a rest reading h some e =
+    let same : take limit (a ++ rest) ≡ a = take-append-le limit a rest (omega arith) ∙ take_all limit a (omega arith) in
+    let bytes : length (a ++ rest) ≡ length a + length rest = length-append a rest in
+    let longer : limit < length (a ++ rest) = omega arith in
+    let long : nat_lt limit (length (a ++ rest)) ≡ true = lt-ltb limit (length (a ++ rest)) longer in
+    let parts = lines (take limit (a ++ rest)) in
+    record {
+      text_is = ap (λ (xs : List ℕ). (ran xs).text) same;
+      fault_is = long_at (nat_lt limit (length (a ++ rest))) (ran (take limit (a ++ rest))).standing (length parts.0 + 1) parts.1 reading long (ap (λ (xs : List ℕ). (ran xs).standing) same ∙ e) ∙ ap (λ (xs : List ℕ). let f : Option (ℕ × Reason) = Some (length (lines xs).0 + 1, Size) in f) same;
+    }
+
+-- What is written at the end
+
+output_is : (all text : List ℕ) (fault : Option (ℕ × Reason)) → HasOutcome all text fault → output all ≡ text ++ fault_line fault
+output_is all text fault o = ap (λ (xs : List ℕ). xs ++ fault_line (outcome all).fault) o.text_is ∙ ap (λ (f : Option (ℕ × Reason)). text ++ fault_line f) o.fault_is
+
+without_fault : (all text : List ℕ) (fault : Option (ℕ × Reason)) → fault ≡ None → HasOutcome all text fault → output all ≡ text
+without_fault all text fault none o = output_is all text fault o ∙ (ap (λ (f : Option (ℕ × Reason)). text ++ fault_line f) none ∙ append-nil text)
+
+pub ends_on : (end : RunEnd) (old new : Option (List ℕ)) (text all : List ℕ) (fault : Option (ℕ × Reason)) → ClosesAs end old new fault → HasOutcome all text fault → EndsOn end old new text all
+ends_on run_end.Done old new text all fault closes o =
+    (o.fault_is ∙ closes.0, λ w told. closes.1 ∙ (told ∙ ap (λ (xs : List ℕ). Some (w ++ xs)) (sym (without_fault all text fault closes.0 o))))
+ends_on (run_end.ScriptFault line reason) old new text all fault closes o = (o.fault_is ∙ closes.0, on_all old new text (output all) (fault_line fault) closes.1 (output_is all text fault o))
+ends_on run_end.SourceFault old new text all fault closes o = tt
+ends_on run_end.SinkFault old new text all fault closes o = on_front old new text (output all) (fault_line fault) closes (output_is all text fault o)
+ends_on run_end.NoMemory old new text all fault closes o = on_front old new text (output all) (fault_line fault) closes (output_is all text fault o)
+
+pub ends_then : (end : RunEnd) (old mid new : Option (List ℕ)) (before text all : List ℕ) → WritesOn old mid before text → EndsOn end mid new text all → EndsOn end old new before all
+ends_then run_end.Done old mid new before text all first second = (second.0, on_then old mid new before text (output all) first second.1)
+ends_then (run_end.ScriptFault line reason) old mid new before text all first second = (second.0, on_then old mid new before text (output all) first second.1)
+ends_then run_end.SourceFault old mid new before text all first second = tt
+ends_then run_end.SinkFault old mid new before text all first second = front_then old mid new before text (output all) first second
+ends_then run_end.NoMemory old mid new before text all first second = front_then old mid new before text (output all) first second
+
+-- a front of the transcript so far is one of the output
+pub front_of_output : (old new : Option (List ℕ)) (before a rest : List ℕ) → length a ≤ limit → WritesFrontOn old new before (ran a).text → WritesFrontOn old new before (output (a ++ rest))
+front_of_output old new before a rest h part =
+    let l = output-longer a rest h in front_longer old new before (ran a).text l.0 (output (a ++ rest)) l.1 part
+
+pub ends_as : (end : RunEnd) (old new : Option (List ℕ)) (before all : List ℕ) → EndsOn end old new before all → EndsAs end (outcome all).fault
+ends_as run_end.Done old new before all e = e.0
+ends_as (run_end.ScriptFault line reason) old new before all e = e.0
+ends_as run_end.SourceFault old new before all e = tt
+ends_as run_end.SinkFault old new before all e = tt
+ends_as run_end.NoMemory old new before all e = tt
+
+pub ends_whole : (end : RunEnd) (old new : Option (List ℕ)) (before all : List ℕ) → IsToldWhole end → EndsOn end old new before all → WritesOn old new before (output all)
+ends_whole run_end.Done old new before all h e = e.1
+ends_whole (run_end.ScriptFault line reason) old new before all h e = e.1
+ends_whole run_end.SourceFault old new before all h e = absurd h
+ends_whole run_end.SinkFault old new before all h e = absurd h
+ends_whole run_end.NoMemory old new before all h e = absurd h
+
+pub ends_front : (end : RunEnd) (old new : Option (List ℕ)) (before all : List ℕ) → (end ≡ run_end.SinkFault) ⊎ (end ≡ run_end.NoMemory) → EndsOn end old new before all → WritesFrontOn old new before (output all)
+ends_front run_end.Done old new before all h e = absurd (elim h [ inl e ↦ (cc) | inr e ↦ (cc) ])
+ends_front (run_end.ScriptFault line reason) old new before all h e = absurd (elim h [ inl e ↦ (cc) | inr e ↦ (cc) ])
+ends_front run_end.SourceFault old new before all h e = absurd (elim h [ inl e ↦ (cc) | inr e ↦ (cc) ])
+ends_front run_end.SinkFault old new before all h e = e
+ends_front run_end.NoMemory old new before all h e = e

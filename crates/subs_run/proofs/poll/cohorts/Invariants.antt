@@ -1,0 +1,8 @@
+use Rattle.std.proofs.Common.{◌≡◌, ℕ, max, map, take, drop}
+use Rattle.std.specs.List.{fold}
+use Rattle.model.specs.State as machine
+use Rattle.hub.specs.Jobs.{member_of}
+use Rattle.subs_run.proofs.poll.cohorts.Given as goal
+
+abbrev pub invariant-loop-member : goal.invariant-loop-member
+invariant-loop-member l = l.most ≡ fold (λ n (m : machine.Member). max n m.cohort) 0 (map member_of (take l.member-index l.members))

@@ -1,0 +1,61 @@
+use Rattle.std.proofs.Common.{◌≡◌, ◌∙◌, ◌++◌, ◌∷◌, [], ℕ, List, subst, sym, ap, refl, arith, rules, append-nil}
+use Rattle.script_text.specs.Said.{reason_of}
+use Rattle.subs_run.specs.Runs.{ran}
+use Rattle.subs_run.specs.Standing.{IsAfter, FedAs, FedAll}
+use Rattle.subs_run.specs.declared.reader.Fed.TheVariants as fed
+use Rattle.subs_run.specs.Written.{WritesOn, WritesFrontOn}
+use Rattle.model.specs.Script.{Ran}
+use Rattle.subs_run.proofs.Readers.{byte_after, byte_text, end_after, end_text, end_fault, fault_within, taken_within, front_so_far}
+use Rattle.subs_run.proofs.Written.{on_same, on_all, on_front, front_all, failed_not_done, no_memory_not_done}
+use Rattle.subs_run.proofs.reader.Reader.step.Goals as goal
+
+pub returns-in-Ok-clause-fed : goal.returns-in-Ok-clause-fed
+returns-in-Ok-clause-fed g c seen a =
+    byte_after c.args.self.now _ seen c.args.byte c.if-byte-ne10.true a refl refl (search rules)
+
+pub returns-in-Ok-clause-all : goal.returns-in-Ok-clause-all
+returns-in-Ok-clause-all g c seen a = on_same _ _ _ (byte_text seen c.args.byte c.if-byte-ne10.true)
+
+pub returns-in-Err-clause-all : goal.returns-in-Err-clause-all
+returns-in-Err-clause-all g c seen a =
+    front_all _ _ _ _ (on_same _ _ _ (byte_text seen c.args.byte c.if-byte-ne10.true))
+
+pub take_line-requires-clause-few : goal.take_line-requires-clause-few
+take_line-requires-clause-few g c = omega (arith, taken_within c.args.self.now c.requires.seen c.requires.after)
+
+pub returns-in-Faulty-clause-fed : goal.returns-in-Faulty-clause-fed
+returns-in-Faulty-clause-fed g c seen a =
+    let e : c.args.byte ≡ 10 = c.if-byte-ne10.false in
+    rw e (ap (λ (r : Ran). r.standing) (end_fault c.args.self.now c.take_line.new.self seen c.in-Faulty.reason a (c.in-Faulty.ensures.went a.reading a.stands)), fault_within c.args.self.now c.take_line.new.self seen c.in-Faulty.reason a (c.in-Faulty.ensures.went a.reading a.stands))
+
+pub returns-in-Faulty-clause-all : goal.returns-in-Faulty-clause-all
+returns-in-Faulty-clause-all g c seen a =
+    let e : c.args.byte ≡ 10 = c.if-byte-ne10.false in
+    let same = ap (λ (r : Ran). r.text) (end_fault c.args.self.now c.take_line.new.self seen c.in-Faulty.reason a (c.in-Faulty.ensures.went a.reading a.stands)) in
+    on_same _ _ _ (rw e same)
+
+pub returns-in-NoMemory-clause-all : goal.returns-in-NoMemory-clause-all
+returns-in-NoMemory-clause-all g c seen a = front_so_far _ seen (c.args.byte ∷ [])
+
+pub returns-in-Done-clause-fed : goal.returns-in-Done-clause-fed
+returns-in-Done-clause-fed g c seen a =
+    let e : c.args.byte ≡ 10 = c.if-byte-ne10.false in
+    rw e (end_after c.args.self.now c.take_line.new.self seen a (c.in-Went.ensures.went a.reading a.stands))
+
+pub returns-in-Done-clause-all : goal.returns-in-Done-clause-all
+returns-in-Done-clause-all g c seen a =
+    let e : c.args.byte ≡ 10 = c.if-byte-ne10.false in
+    let text = end_text c.args.self.now c.take_line.new.self seen a (c.in-Went.ensures.went a.reading a.stands) in
+    on_all _ _ _ _ c.take_line.new.self.out.items (rw c.deref.ensures.value at (c.in-Done.ensures.done refl)) (rw e text)
+
+pub returns-in-Failed-clause-all : goal.returns-in-Failed-clause-all
+returns-in-Failed-clause-all g c seen a =
+    let e : c.args.byte ≡ 10 = c.if-byte-ne10.false in
+    let text = end_text c.args.self.now c.take_line.new.self seen a (c.in-Went.ensures.went a.reading a.stands) in
+    on_front _ _ _ _ c.take_line.new.self.out.items (rw c.deref.ensures.value at (c.in-Failed.ensures.front failed_not_done)) (rw e text)
+
+pub returns-in-NoMemory-write_all-clause-all : goal.returns-in-NoMemory-write_all-clause-all
+returns-in-NoMemory-write_all-clause-all g c seen a =
+    let e : c.args.byte ≡ 10 = c.if-byte-ne10.false in
+    let text = end_text c.args.self.now c.take_line.new.self seen a (c.in-Went.ensures.went a.reading a.stands) in
+    on_front _ _ _ _ c.take_line.new.self.out.items (rw c.deref.ensures.value at (c.in-NoMemory-write_all.ensures.front no_memory_not_done)) (rw e text)

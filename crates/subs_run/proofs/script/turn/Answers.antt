@@ -1,0 +1,24 @@
+use Rattle.std.proofs.Common.{◌≡◌, ◌∙◌, ◌≤◌, ◌+◌, ◌-◌, rules, sym, ap, subst, refl, arith, ℕ, List, length, take, min}
+use Rattle.std.proofs.lemmas.List.{length-take-le}
+use Rattle.model.specs.Script.{limit}
+use Rattle.subs_run.specs.Turns.{TakesTo}
+use Rattle.subs_run.proofs.Readers.{taken_within}
+use Rattle.subs_run.proofs.Turns.{turned, finished}
+use Rattle.subs_run.proofs.script.turn.Goals as goal
+
+pub finish-requires : goal.finish-requires
+finish-requires g c = omega (arith, taken_within c.args.reader.now c.requires.room.seen c.requires.room.after, c.requires.room.within)
+
+pub returns-in-Bytes-clause-turned : goal.returns-in-Bytes-clause-turned
+returns-in-Bytes-clause-turned g c left written a =
+    let n : ℕ = c.in-Bytes.got in
+    let most : c.min-most.result ≤ length c.args.buf.now = search rules in
+    let most_left : c.min-most.result ≤ limit - c.args.count = search rules in
+    let within : n ≤ length c.read_piece.new.buf = omega (arith, c.read_piece.auto.buf, c.in-Bytes.ensures.count.1, most) in
+    let few : c.args.count + n ≤ limit = omega (arith, c.in-Bytes.ensures.count.1, most_left, c.requires.few) in
+    turned c.take.result left (g.S.Source.left c.args.source.now) (g.S.Source.left c.read_piece.new.source) written (g.K.Sink.written c.args.sink.now) (g.K.Sink.written c.take.new.sink) c.args.reader.now c.take.new.self c.read_piece.new.buf c.args.count n a c.in-Bytes.ensures.bytes c.in-Bytes.ensures.count.0 within few
+    (c.take.ensures.takes a.seen a.after (omega (arith, a.count_is, few, length-take-le n c.read_piece.new.buf within)))
+
+pub returns-in-End-clause-turned : goal.returns-in-End-clause-turned
+returns-in-End-clause-turned g c left written a =
+    finished c.finish.result left (g.S.Source.left c.args.source.now) (g.S.Source.left c.read_piece.new.source) written (g.K.Sink.written c.args.sink.now) (g.K.Sink.written c.finish.new.sink) c.args.reader.now c.read_piece.new.buf c.args.count a c.in-End.ensures.bytes (c.finish.ensures.closes a.after.reading a.after.stands)

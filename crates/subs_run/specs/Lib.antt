@@ -1,0 +1,6 @@
+pub mod Runs
+pub mod Written
+pub mod Events
+pub mod Progress
+pub mod Standing
+pub mod Turns

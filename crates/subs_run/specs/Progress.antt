@@ -1,0 +1,59 @@
+-- How far a script is, and what a line does to it. This project's own.
+use Rattle.std.specs.Prelude.{◌≡◌, ℕ, ◌+◌, ◌*◌, ◌<◌, ◌≤◌, Option, Some, None, List, [], ◌++◌, length}
+use Rattle.model.specs.Admission.{Meta}
+use Rattle.model.specs.State.{Event}
+use Rattle.model.specs.Run.{run}
+use Rattle.model.specs.Script.{Reading, Heading, Running, Took, Went, Faulty, limit}
+use Rattle.hub.specs.State.{Kept}
+use Rattle.hub.specs.Stands.{StandsFor}
+use Rattle.script_text.specs.Said.{reason_of}
+use Rattle.subs_run.specs.declared.taken.Taken.{Taken}
+use Rattle.subs_run.specs.declared.taken.Taken.TheVariants as taken
+use Rattle.subs_run.specs.declared.progress.Progress.{Progress}
+use Rattle.subs_run.specs.declared.progress.Progress.TheVariants as progress
+
+-- The hub stands for some history, after which the reading goes on. Each line so far has added at most one subscription,
+-- and no more than so many events: one, and two for each subscription.
+pub record IsRunning (k : Kept) (taken : ℕ) (reading : Reading) : Type 0 where
+  pub history : List Event
+  pub stands : StandsFor k history
+  pub is : reading ≡ Running k.meta (run k.meta history)
+  pub few : length k.subscriptions ≤ taken
+  pub bounded : k.events ≤ taken * 134217729
+
+-- what the progress after so many lines stands for
+abbrev pub StandsAt : Progress → ℕ → Reading → Type 0
+StandsAt (progress.Heading metadata) taken reading = reading ≡ Heading metadata.items
+StandsAt (progress.Running hub) taken reading = IsRunning hub taken reading
+
+-- it stands for something, after fewer lines than a script may have bytes
+pub record HasStand (p : Progress) : Type 0 where
+  pub taken : ℕ
+  pub few : taken < limit
+  pub reading : Reading
+  pub stands : StandsAt p taken reading
+
+-- a line was taken as the rules say, or is at fault
+abbrev pub Advances : Taken → Took → Progress → ℕ → List ℕ → List ℕ → Type 0
+Advances taken.Went (Went reading text) after number before now = StandsAt after number reading × (now ≡ before ++ text)
+Advances taken.Went (Faulty reason) after number before now = ⊥
+Advances (taken.Faulty reason) (Went reading text) after number before now = ⊥
+Advances (taken.Faulty reason) (Faulty other) after number before now = other ≡ reason_of reason
+Advances taken.NoMemory took after number before now = Unit {0}
+
+-- the hub of metadata that was read, to which nothing has happened
+pub record IsNew (meta : Meta) (k : Kept) : Type 0 where
+  pub meta_is : k.meta ≡ meta
+  pub stands : StandsFor k []
+  pub events : k.events ≡ 0
+
+abbrev pub Begins : Option Meta → Option Kept → Type 0
+Begins (Some meta) (Some k) = IsNew meta k
+Begins (Some meta) None = ⊥
+Begins None (Some k) = ⊥
+Begins None None = Unit {0}
+
+abbrev pub IfWent : Taken → Type 0 → Type 0
+IfWent taken.Went p = p
+IfWent (taken.Faulty reason) p = ⊥
+IfWent taken.NoMemory p = Unit {0}

@@ -1,0 +1,15 @@
+//! Scripts, from bytes to bytes: reads a script from a source, runs it line by line, and writes its transcript into a
+//! sink.
+#![tactic(auto)]
+
+mod answer;
+mod event;
+mod poll;
+mod progress;
+mod put;
+mod reader;
+mod script;
+mod taken;
+
+pub use answer::{RunEnd, ScriptReason};
+pub use script::run_script;

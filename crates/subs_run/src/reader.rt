@@ -1,0 +1,200 @@
+ghost use Rattle.std.specs.Prelude.{◌≡◌, ◌≢◌, ◌≤◌, ◌<◌, ◌+◌, ◌++◌, ◌∷◌, ◌⊎◌, [], ℕ, List, Some, length, None, OnOk, if◌then◌else◌};
+ghost use Rattle.outside.specs.Ends.{Rose};
+ghost use Rattle.model.specs.Script.{Reading, take_line, limit, ended, fault_line, Cut};
+ghost use Rattle.script_text.specs.Said.{reason_of};
+ghost use Rattle.subs_run.specs.Runs.{ran};
+ghost use Rattle.subs_run.specs.Turns.{TakesTo, ClosesAs};
+ghost use Rattle.subs_run.specs.Progress.{StandsAt};
+ghost use Rattle.subs_run.specs.Standing.{ Matches, IsAfter, FedAs, FedAll, HasRoom};
+
+use crate::answer::{RunEnd, ScriptReason};
+use crate::progress::{Progress, advance};
+use crate::put::{Wrote, write_all};
+use crate::taken::Taken;
+use outside::Sink;
+use scalar_val::Steps;
+use script_text::write_fault;
+use std::alloc::Global;
+use std::sync::ledger::Ledger;
+
+/// A script between two bytes.
+#[derive(Drop)]
+pub(crate) struct Reader {
+    pub progress: Progress,
+    /// The line whose end hasn't come yet.
+    pub line: Vec<u8>,
+    /// How many lines were taken.
+    pub taken: u64,
+    /// The transcript of the last line.
+    pub out: Vec<u8>,
+}
+
+/// How the taking of bytes ended.
+#[derive(Clone, Copy)]
+pub(crate) enum Fed {
+    Done,
+    Faulty(ScriptReason),
+    SinkFailed,
+    NoMemory,
+}
+
+/// How the taking of a piece ended: so many bytes were taken, or the run ends.
+#[derive(Clone, Copy)]
+pub(crate) enum Turn {
+    Took(usize),
+    Ended(RunEnd),
+}
+
+impl Reader {
+    /// Before the first byte.
+    pub(crate) fn new(alloc: Global) -> Reader
+        ensures { IsAfter result [] }
+    {
+        Reader {
+            progress: Progress::Heading(Vec::new(alloc)),
+            line: Vec::new(alloc),
+            taken: 0,
+            out: Vec::new(alloc),
+        }
+    }
+
+    /// Takes the line, whose end came, and leaves its transcript in `out`.
+    fn take_line<L: Ledger>(&mut self, alloc: Global, steps: &mut Steps<L>) -> Taken
+        requires stands { (reading : Reading) × StandsAt self.old.progress self.old.taken reading }
+        requires few { self.old.taken < limit }
+        ensures went { (reading : Reading) → StandsAt self.old.progress self.old.taken reading → Matches result (take_line reading self.old.line.items) self.old.taken self.new }
+    {
+        self.out.clear();
+        match advance(&mut self.progress, alloc, &self.line, &mut self.out, steps) {
+            Taken::Went => {
+                self.line.clear();
+                self.taken += 1;
+                Taken::Went
+            }
+            taken => taken,
+        }
+    }
+
+    /// Takes one byte of the script. A line end brings the line's transcript.
+    fn step<K: Sink, L: Ledger>(
+        &mut self,
+        alloc: Global,
+        sink: &mut K,
+        byte: u8,
+        steps: &mut Steps<L>,
+    ) -> Fed
+        requires { HasRoom self.old 1 }
+        ensures fed { (seen : List ℕ) → IsAfter self.old seen → FedAs result self.new (seen ++ byte ∷ []) }
+        ensures all { (seen : List ℕ) → IsAfter self.old seen → FedAll result (K.written sink.old) (K.written sink.new) (ran seen).text (ran (seen ++ byte ∷ [])).text }
+        ensures later { K.faults sink.old ≤ K.faults sink.new }
+        ensures failed { result ≡ Fed.SinkFailed → Rose (K.faults sink.old) (K.faults sink.new) }
+        ensures steady { K.never_fails sink.old → K.never_fails sink.new × (result ≢ Fed.SinkFailed) }
+    {
+        if byte != b'\n' {
+            return match self.line.push(byte) {
+                Ok(()) => Fed::Done,
+                Err(_) => Fed::NoMemory,
+            };
+        }
+        match self.take_line(alloc, steps) {
+            Taken::Went => {}
+            Taken::Faulty(reason) => return Fed::Faulty(reason),
+            Taken::NoMemory => return Fed::NoMemory,
+        }
+        match write_all(sink, &self.out) {
+            Wrote::Done => Fed::Done,
+            Wrote::Failed => Fed::SinkFailed,
+            Wrote::NoMemory => Fed::NoMemory,
+        }
+    }
+
+    /// Takes a piece of the script, and writes the transcript of each line as its end comes.
+    fn feed<K: Sink, L: Ledger>(
+        &mut self,
+        alloc: Global,
+        sink: &mut K,
+        piece: &[u8],
+        steps: &mut Steps<L>,
+    ) -> Fed
+        requires { HasRoom self.old (length piece.now) }
+        ensures fed { (seen : List ℕ) → IsAfter self.old seen → FedAs result self.new (seen ++ piece.now) }
+        ensures all { (seen : List ℕ) → IsAfter self.old seen → FedAll result (K.written sink.old) (K.written sink.new) (ran seen).text (ran (seen ++ piece.now)).text }
+        ensures later { K.faults sink.old ≤ K.faults sink.new }
+        ensures failed { result ≡ Fed.SinkFailed → Rose (K.faults sink.old) (K.faults sink.new) }
+        ensures steady { K.never_fails sink.old → K.never_fails sink.new × (result ≢ Fed.SinkFailed) }
+    {
+        for byte in piece {
+            match self.step(alloc, sink, *byte, steps) {
+                Fed::Done => {}
+                fed => return fed,
+            }
+        }
+        Fed::Done
+    }
+
+    /// Takes a piece of the script. Where a line is at fault, its fault is written.
+    pub(crate) fn take<K: Sink, L: Ledger>(
+        &mut self,
+        alloc: Global,
+        sink: &mut K,
+        piece: &[u8],
+        steps: &mut Steps<L>,
+    ) -> Turn
+        requires { HasRoom self.old (length piece.now) }
+        ensures takes { (seen : List ℕ) → IsAfter self.old seen → length seen + length piece.now ≤ limit → TakesTo result self.new (K.written sink.old) (K.written sink.new) seen piece.now }
+        ensures later { K.faults sink.old ≤ K.faults sink.new }
+        ensures failed { result ≡ Turn.Ended RunEnd.SinkFault → Rose (K.faults sink.old) (K.faults sink.new) }
+        ensures steady { K.never_fails sink.old → K.never_fails sink.new × (result ≢ Turn.Ended RunEnd.SinkFault) }
+    {
+        match self.feed(alloc, sink, piece, steps) {
+            Fed::Done => Turn::Took(piece.len()),
+            Fed::Faulty(reason) => Turn::Ended(self.fault(sink, reason)),
+            Fed::SinkFailed => Turn::Ended(RunEnd::SinkFault),
+            Fed::NoMemory => Turn::Ended(RunEnd::NoMemory),
+        }
+    }
+
+    /// Writes the fault of the line that was not taken.
+    pub(crate) fn fault<K: Sink>(&mut self, sink: &mut K, reason: ScriptReason) -> RunEnd
+        requires { self.old.taken ≤ limit }
+        ensures closes { ClosesAs result (K.written sink.old) (K.written sink.new) (Some (self.old.taken + 1, reason_of reason)) }
+        ensures later { K.faults sink.old ≤ K.faults sink.new }
+        ensures failed { result ≡ RunEnd.SinkFault → Rose (K.faults sink.old) (K.faults sink.new) }
+        ensures steady { K.never_fails sink.old → K.never_fails sink.new × (result ≢ RunEnd.SinkFault) }
+    {
+        let line = self.taken + 1;
+        self.out.clear();
+        if write_fault(&mut self.out, line, reason).is_err() {
+            return RunEnd::NoMemory;
+        }
+        match write_all(sink, &self.out) {
+            Wrote::Done => RunEnd::ScriptFault { line, reason },
+            Wrote::Failed => RunEnd::SinkFault,
+            Wrote::NoMemory => RunEnd::NoMemory,
+        }
+    }
+
+    /// Whether the script may not end here: within a line, or within its metadata.
+    fn is_cut(&self) -> bool
+        ensures { (reading : Reading) → StandsAt self.now.progress self.now.taken reading → ended (self.now.taken + 1) self.now.line.items reading ≡ (if result then Some (self.now.taken + 1, Cut) else None) }
+    {
+        match &self.progress {
+            Progress::Heading(_) => true,
+            Progress::Running(_) => !self.line.is_empty(),
+        }
+    }
+
+    /// The script ends here.
+    pub(crate) fn finish<K: Sink>(&mut self, sink: &mut K) -> RunEnd
+        requires { self.old.taken ≤ limit }
+        ensures closes { (reading : Reading) → StandsAt self.old.progress self.old.taken reading → ClosesAs result (K.written sink.old) (K.written sink.new) (ended (self.old.taken + 1) self.old.line.items reading) }
+        ensures later { K.faults sink.old ≤ K.faults sink.new }
+        ensures failed { result ≡ RunEnd.SinkFault → Rose (K.faults sink.old) (K.faults sink.new) }
+        ensures steady { K.never_fails sink.old → K.never_fails sink.new × (result ≢ RunEnd.SinkFault) }
+    {
+        if self.is_cut() {
+            return self.fault(sink, ScriptReason::Cut);
+        }
+        RunEnd::Done
+    }
+}
