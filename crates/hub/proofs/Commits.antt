@@ -22,7 +22,7 @@ use Rattle.hub.specs.State.{Kept, state_of}
 use Rattle.hub.specs.Stands.{IsOpen, StandsFor, Happened, Does}
 use Rattle.hub.specs.Inserts.{inserted, inserted_all, row_of}
 use Rattle.hub.specs.Jobs.{Taking, takings}
-use Rattle.hub.proofs.Laws.{run-push, taken-longer}
+use Rattle.hub.proofs.Histories.{run-push, taken-longer}
 use Rattle.hub.proofs.Stands.{no_taking}
 
 -- Rows

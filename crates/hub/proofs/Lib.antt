@@ -1,4 +1,4 @@
-pub mod Laws
+pub mod Histories
 pub mod Stands
 pub mod Pieces
 pub mod Places

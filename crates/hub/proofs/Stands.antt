@@ -12,7 +12,7 @@ use Rattle.model.specs.Built.{is_built}
 use Rattle.hub.specs.State.{Kept, state_of}
 use Rattle.hub.specs.Jobs.{Taking, taking_of, takings}
 use Rattle.hub.specs.Stands.{IsOpen, StandsFor, Happened, Does}
-use Rattle.hub.proofs.Laws.{run-push, takings-push, taken-longer}
+use Rattle.hub.proofs.Histories.{run-push, takings-push, taken-longer}
 
 -- an event of every state with these parts that neither is a transaction nor takes a job
 pub record StepsTo (k k' : Kept) (e : Event) (reply : Reply) (queued : List Queued) : Type 0 where

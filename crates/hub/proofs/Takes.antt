@@ -24,7 +24,7 @@ use Rattle.hub.specs.declared.parts.Subscription.{Subscription}
 use Rattle.hub.specs.declared.parts.Standing.{Standing}
 use Rattle.hub.specs.declared.parts.Standing.TheVariants.{Idle, Due, Open}
 use Rattle.hub.specs.declared.center.Hub.TheInside.{Inside}
-use Rattle.hub.proofs.Laws.{run-push, takings-push, slice_get-push}
+use Rattle.hub.proofs.Histories.{run-push, takings-push, slice_get-push}
 use Rattle.hub.proofs.Cohorts.{members_taken}
 use Rattle.hub.proofs.Results.{result_planned}
 use Rattle.hub.proofs.Events.{quiet}

@@ -1,4 +1,4 @@
-ghost use Rattle.std.specs.Prelude.{◌≡◌, ◌+◌, ◌^◌, ◌<◌, [], IfOk, OnOk, IfErr, OnErr, length};
+ghost use Rattle.std.specs.Prelude.{◌≡◌, ◌+◌, ◌^◌, ◌<◌, ◌≤◌, [], IfOk, OnOk, IfErr, OnErr, length};
 ghost use Rattle.model.specs.State.{Connect, Receive, Tick, Ticked};
 ghost use Rattle.model.specs.Messages.{Init, Subscribe};
 ghost use Rattle.model.specs.Forms.{read_message};
@@ -85,6 +85,7 @@ impl Hub {
         requires { self.old.events < 2 ^ 62 }
         ensures reply { IfOk result (λ reply. ConnAnswers self.old self.new (Connect conn) reply) }
         ensures err { OnErr result (self.new ≡ self.old) }
+        ensures count { self.new.events ≤ self.old.events + 1 }
     {
         if self.connection.is_some() {
             return Ok(ConnReply::Unbuilt);
@@ -107,6 +108,7 @@ impl Hub {
         requires { self.old.events < 2 ^ 62 }
         ensures reply { IfOk result (λ reply. ReceiveAnswers self.old self.new conn (read_message text.now) reply) }
         ensures err { OnErr result (self.new ≡ self.old) }
+        ensures count { self.new.events ≤ self.old.events + 1 }
     {
         match read_message(alloc, text)? {
             None => Ok(ConnReply::Unbuilt),
@@ -119,6 +121,7 @@ impl Hub {
         requires { self.old.events < 2 ^ 62 }
         ensures reply { IfOk result (λ reply. ConnAnswers self.old self.new (Receive conn (Init [])) reply) }
         ensures err { OnErr result (self.new ≡ self.old) }
+        ensures count { self.new.events ≤ self.old.events + 1 }
     {
         if !is_fresh(&self.connection, conn) {
             return Ok(ConnReply::Unbuilt);
@@ -139,6 +142,7 @@ impl Hub {
         requires { self.old.events < 2 ^ 62 }
         ensures reply { IfOk result (λ reply. ConnAnswers self.old self.new (Receive conn (Subscribe id.now (record { query = query.now; operation = None }))) reply) }
         ensures err { OnErr result (self.new ≡ self.old) }
+        ensures count { self.new.events ≤ self.old.events + 1 }
     {
         if !is_free(&self.connection, conn) {
             return Ok(ConnReply::Unbuilt);
@@ -164,6 +168,7 @@ impl Hub {
         requires { self.old.events < 2 ^ 62 }
         ensures reply { IfOk result (λ reply. CommitAnswers self.old self.new (transaction_of tx.now) reply) }
         ensures err { OnErr result (self.new ≡ self.old) }
+        ensures count { self.new.events ≤ self.old.events + 1 }
     {
         let key = self.meta.key as usize;
         let Some(rows) = apply(alloc, key, tx.as_slice(), self.snapshot.rows(), steps)? else {
@@ -180,6 +185,7 @@ impl Hub {
         requires { self.old.events < 2 ^ 62 }
         ensures does { Does self.old self.new Tick (Ticked result) [] }
         ensures due { result ≡ length self.new.due }
+        ensures count { self.new.events ≤ self.old.events + 1 }
     {
         self.events += 1;
         if !is_idle(&self.connection) {
@@ -195,6 +201,7 @@ impl Hub {
         requires { self.old.events < 2 ^ 62 }
         ensures reply { IfOk result (λ job. TakeAnswers self.old self.new job) }
         ensures err { OnErr result (self.new ≡ self.old) }
+        ensures count { self.new.events ≤ self.old.events + 1 }
     {
         let Some(plan) = due_plan(&self.connection)? else {
             self.events += 1;
@@ -222,6 +229,7 @@ impl Hub {
         requires { self.old.events < 2 ^ 62 }
         ensures reply { IfOk result (λ reply. PublishAnswers self.old self.new answers reply) }
         ensures err { OnErr result (self.new ≡ self.old) }
+        ensures count { self.new.events ≤ self.old.events + 1 }
         ensures handed_back { IfErr result (λ back. back ≡ answers) }
     {
         if !is_open(&self.connection, answers.number()) {

@@ -8,17 +8,21 @@ mod center;
 mod changes;
 mod evaluation;
 mod job;
+mod laws;
 mod message;
 mod parts;
 mod plan;
 mod reading;
 mod reply;
 mod rows;
+#[cfg(test)]
+mod tests;
 mod texts;
 
 pub use center::Hub;
 pub use evaluation::evaluate;
 pub use job::{Answers, Job, Member, MemberList, Outcome, OutcomeList};
+pub use laws::job_laws;
 pub use plan::{Field, FieldList, Plan, SharedPlan};
 pub use reply::{CommitReply, ConnReply, Effect, PublishReply};
 pub use rows::{Row, RowList, Snapshot};
