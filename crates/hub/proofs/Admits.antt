@@ -89,8 +89,9 @@ pub plan_yes : (meta : Meta) (text : List ℕ) (cs : List (List ℕ)) (fields : 
 plan_yes meta text cs fields table e t ec et d h =
     let among : all_among (columns_in text) meta.columns ≡ true = sym (ap (λ (cs : List (List ℕ)). all_among cs meta.columns) ec) ∙ h.2 in
     let name : table_in text ≡ table = text_same (table_in text) meta.table t ∙ sym et in
-    let columns : columns_in text ≡ map (λ (f : Field). f.name) fields = sym ec ∙ sym h.0 in
-    (is_fine meta text e t d among
-    ∙ ap (λ (name : List ℕ). Admits (record { word = SubscriptionWord; kind = Live; role = administrator.role; selection = Columns name (columns_in text); variables = []; session = [] }) val.Null) name
-    ∙ ap (λ (cs : List (List ℕ)). Admits (record { word = SubscriptionWord; kind = Live; role = administrator.role; selection = Columns table cs; variables = []; session = [] }) val.Null) columns,
-    record { table = et; fields = h.1 })
+    let columns : columns_in text ≡ map (λ (f : Field). f.name) fields = sym ec ∙ sym h.0 in (
+      is_fine meta text e t d among
+          ∙ ap (λ (name : List ℕ). Admits (record { word = SubscriptionWord; kind = Live; role = administrator.role; selection = Columns name (columns_in text); variables = []; session = [] }) val.Null) name
+          ∙ ap (λ (cs : List (List ℕ)). Admits (record { word = SubscriptionWord; kind = Live; role = administrator.role; selection = Columns table cs; variables = []; session = [] }) val.Null) columns,
+      record { table = et; fields = h.1 },
+    )

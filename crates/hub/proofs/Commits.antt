@@ -108,14 +108,17 @@ now_is k h st =
 
 stay_open : (k : Kept) (after : Database) (txs : List Transaction) (tx : Transaction) (h : List Event) (jobs : List Job) → AllByRecursion (IsOpen k txs h) jobs → AllByRecursion (IsOpen (committed k after) (txs ++ tx ∷ []) (h ++ Commit tx ∷ [])) jobs
 stay_open k after txs tx h [] o = tt
-stay_open k after txs tx h (j ∷ js) o = (record {
-  taking = o.0.taking;
-  taken = taken-longer k.meta h (Commit tx ∷ []) _ _ o.0.taken;
-  job_is = o.0.job_is;
-  subscriptions = o.0.subscriptions;
-  database = snapshot-earlier k.meta.tables txs tx j.version o.0.version ∙ o.0.database;
-  version = omega (arith, length-append txs (tx ∷ []), o.0.version);
-}, stay_open k after txs tx h js o.1)
+stay_open k after txs tx h (j ∷ js) o = (
+  record {
+    taking = o.0.taking;
+    taken = taken-longer k.meta h (Commit tx ∷ []) _ _ o.0.taken;
+    job_is = o.0.job_is;
+    subscriptions = o.0.subscriptions;
+    database = snapshot-earlier k.meta.tables txs tx j.version o.0.version ∙ o.0.database;
+    version = omega (arith, length-append txs (tx ∷ []), o.0.version);
+  },
+  stay_open k after txs tx h js o.1,
+)
 
 commits_happened : (k : Kept) (tx : Transaction) (after : Database) (h : List Event) → apply k.meta.tables k.database tx ≡ Accepted after → StandsFor k h → Happened k (committed k after) h (Commit tx) (Committed (k.version + 1)) []
 commits_happened k tx after h e st =

@@ -88,9 +88,10 @@ told a c sub number version answers h st an e =
     let db : database_of (meta_of a.meta) an.taking.state an.taking.job ≡ snapshot (meta_of a.meta).tables st.transactions version =
     ap (λ (t : Taking). database_of (meta_of a.meta) t.state t.job) same ∙ ap (λ (j : machine.Job). database_of (meta_of a.meta) open_job.taking.state j) open_job.job_is ∙ sym open_job.database in
     let subs : an.taking.state.subscriptions ≡ (old a c sub number version).subscriptions = ap (λ (t : Taking). t.state.subscriptions) same ∙ sym open_job.subscriptions in
-    let moved = results_moved (meta_of a.meta) _ _ _ _ (map result_of answers.outcomes) _ _ db subs (ap (λ (j : machine.Job). j.members) job) an.results in
-    (text_from answers.outcomes (result (meta_of a.meta).tables (query_of sub.plan) val.Null (snapshot (meta_of a.meta).tables st.transactions version)) moved.0,
-    sym an.version ∙ ap (λ (j : machine.Job). j.version) job)
+    let moved = results_moved (meta_of a.meta) _ _ _ _ (map result_of answers.outcomes) _ _ db subs (ap (λ (j : machine.Job). j.members) job) an.results in (
+      text_from answers.outcomes (result (meta_of a.meta).tables (query_of sub.plan) val.Null (snapshot (meta_of a.meta).tables st.transactions version)) moved.0,
+      sym an.version ∙ ap (λ (j : machine.Job). j.version) job,
+    )
 
 -- what a publication does, whatever the first text is
 abbrev Publishes : Inside → Option Connection → Answers → Option (List ℕ) → List Event → Type 0

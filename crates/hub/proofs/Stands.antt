@@ -26,14 +26,17 @@ pub record StepsTo (k k' : Kept) (e : Event) (reply : Reply) (queued : List Queu
 
 stays_open : (k k' : Kept) (txs : List Transaction) (h : List Event) (e : Event) → k'.meta ≡ k.meta → k'.subscriptions ≡ k.subscriptions → (jobs : List Job) → AllByRecursion (IsOpen k txs h) jobs → AllByRecursion (IsOpen k' txs (h ++ e ∷ [])) jobs
 stays_open k k' txs h e m s [] o = tt
-stays_open k k' txs h e m s (j ∷ js) o = (record {
-  taking = o.0.taking;
-  taken = rw m (taken-longer k.meta h (e ∷ []) _ _ o.0.taken);
-  job_is = o.0.job_is;
-  subscriptions = s ∙ o.0.subscriptions;
-  database = rw m o.0.database;
-  version = o.0.version;
-}, stays_open k k' txs h e m s js o.1)
+stays_open k k' txs h e m s (j ∷ js) o = (
+  record {
+    taking = o.0.taking;
+    taken = rw m (taken-longer k.meta h (e ∷ []) _ _ o.0.taken);
+    job_is = o.0.job_is;
+    subscriptions = s ∙ o.0.subscriptions;
+    database = rw m o.0.database;
+    version = o.0.version;
+  },
+  stays_open k k' txs h e m s js o.1,
+)
 
 jobs_after : (k k' : Kept) (txs : List Transaction) (h : List Event) (e : Event) → k'.meta ≡ k.meta → (k'.jobs ≡ []) ⊎ ((k'.jobs ≡ k.jobs) × (k'.subscriptions ≡ k.subscriptions)) → AllByRecursion (IsOpen k txs h) k.jobs → AllByRecursion (IsOpen k' txs (h ++ e ∷ [])) k'.jobs
 jobs_after k k' txs h e m (inl none) o = subst (AllByRecursion (IsOpen k' txs (h ++ e ∷ []))) (sym none) tt

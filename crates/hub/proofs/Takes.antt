@@ -86,14 +86,17 @@ takes_happened a c sub h st =
         database = st.database;
         events = omega (arith, length-append h (Take ∷ []), st.events);
         taken = rw (takes_taken a c sub h st) (omega (arith, length-append (takings (meta_of a.meta) h) (taking_at a h ∷ []), st.taken));
-        jobs = (record {
-          taking = taking_at a h;
-          taken = takes_found a c sub h st;
-          job_is = refl;
-          subscriptions = ap (λ (s : State). s.subscriptions) (sym st.state);
-          database = takes_database a c sub h st;
-          version = omega (arith, st.version);
-        }, tt);
+        jobs = (
+          record {
+            taking = taking_at a h;
+            taken = takes_found a c sub h st;
+            job_is = refl;
+            subscriptions = ap (λ (s : State). s.subscriptions) (sym st.state);
+            database = takes_database a c sub h st;
+            version = omega (arith, st.version);
+          },
+          tt,
+        );
       };
       built = refl;
       step = whole ∙ ap (λ (s : State). record { state = s; reply = Taken (job_at_version a a.version); queued = []; closed = [] }) (sym ran);

@@ -1,4 +1,4 @@
--- Inserts into the rows of one table with one key column, without the reasons of refusals.
+-- Inserts into the rows of one table with one key column, without the reasons of refusals. This project's own.
 use Rattle.std.specs.Prelude.{ℕ, Option, Some, None, List, [], ◌∷◌}
 use Rattle.std.specs.Option.{option_map, option_and_then}
 use Rattle.std.specs.Ordering.{match_ordering}

@@ -1,4 +1,4 @@
--- What the hub's helpers read of its one connection and one subscription, and how they change them.
+-- What the hub's helpers read of its one connection and one subscription, and how they change them. This project's own.
 use Rattle.std.specs.Prelude.{ℕ, ◌==◌, Bool, true, false, ◌&&◌, not, if◌then◌else◌, Option, Some, None, List, [], ◌∷◌, ◌++◌}
 use Rattle.std.specs.Option.{option_map, is_some}
 use Rattle.model.specs.Messages.{next_text}

@@ -1,4 +1,4 @@
--- What the parts of a client's message mean to the machine.
+-- What the parts of a client's message (the `graphql-transport-ws` protocol) mean to the machine.
 use Rattle.std.specs.Prelude.{None, []}
 use Rattle.model.specs.Messages as model
 use Rattle.hub.specs.declared.message.Message.{Message}

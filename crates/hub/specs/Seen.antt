@@ -1,4 +1,4 @@
--- What the fields of a hub mean.
+-- What the fields of a hub mean. This project's own.
 use Rattle.std.specs.Prelude.{◌≤◌, ℕ, Bool, true, false, Option, Some, None, List, [], ◌∷◌, map}
 use Rattle.std.specs.Option.{option_to_list}
 use Rattle.scalar_val.specs.declared.val.Val.TheVariants as val

@@ -7,6 +7,7 @@ ghost use Rattle.hub.specs.Stands.{StandsFor, Does};
 ghost use Rattle.hub.specs.Replies.{ConnAnswers, ReceiveAnswers, CommitAnswers, TakeAnswers, PublishAnswers};
 
 use crate::admission::admit;
+use crate::apply::apply;
 use crate::changes::{
     acknowledge, add_subscription, due_plan, is_free, is_fresh, is_idle, is_open, new_subscription,
     queue_text, remember, stand, tell,
@@ -16,7 +17,6 @@ use crate::message::Message;
 use crate::parts::{Connection, Standing};
 use crate::reading::read_message;
 use crate::reply::{CommitReply, ConnReply, Effect, PublishReply};
-use crate::apply::apply;
 use crate::rows::Snapshot;
 use crate::texts::ack_text;
 use model::{Meta, Tx};

@@ -26,7 +26,10 @@ pub fn is_idle(connection: &Option<Connection>) -> bool
     match subscription.standing {
         Standing::Idle => true,
         Standing::Due => true,
-        Standing::Open { number: _, version: _ } => false,
+        Standing::Open {
+            number: _,
+            version: _,
+        } => false,
     }
 }
 
@@ -43,7 +46,10 @@ pub fn is_open(connection: &Option<Connection>, number: u64) -> bool
     match subscription.standing {
         Standing::Idle => false,
         Standing::Due => false,
-        Standing::Open { number: open, version: _ } => open == number,
+        Standing::Open {
+            number: open,
+            version: _,
+        } => open == number,
     }
 }
 
@@ -60,7 +66,10 @@ pub fn due_plan(connection: &Option<Connection>) -> Result<Option<SharedPlan>, N
     match subscription.standing {
         Standing::Idle => Ok(None),
         Standing::Due => Ok(Some(subscription.plan.share()?)),
-        Standing::Open { number: _, version: _ } => Ok(None),
+        Standing::Open {
+            number: _,
+            version: _,
+        } => Ok(None),
     }
 }
 
@@ -147,15 +156,15 @@ fn into_first(outcomes: List<Outcome>) -> Option<Bytes>
     if outcomes.is_empty() {
         return None;
     }
-    let Outcome { text, rows: _, last: _ } = outcomes.remove(0);
+    let Outcome {
+        text,
+        rows: _,
+        last: _,
+    } = outcomes.remove(0);
     Some(text)
 }
 
-fn queue_in(
-    alloc: Global,
-    connection: &mut Connection,
-    text: Bytes,
-) -> Result<QueuedList, NoMemory>
+fn queue_in(alloc: Global, connection: &mut Connection, text: Bytes) -> Result<QueuedList, NoMemory>
     ensures after { OnOk result (connection.new ≡ queues text connection.old) }
     ensures queued { IfOk result (λ queued. map queued_of queued ≡ queued_on text (Some connection.old)) }
     ensures err { OnErr result (connection.new ≡ connection.old) }
@@ -222,7 +231,9 @@ pub fn is_free(connection: &Option<Connection>, number: u32) -> bool
     ensures { result ≡ is_free number connection.now }
 {
     match connection {
-        Some(connection) => connection.number == number && connection.acknowledged && connection.subscription.is_none(),
+        Some(connection) => connection.number == number
+            && connection.acknowledged
+            && connection.subscription.is_none(),
         None => false,
     }
 }

@@ -9,5 +9,4 @@ ghost use Rattle.hub.specs.declared.job.Answers.{Answers};
 pub fn job_laws()
     ensures jobs { (meta : Meta) (job : Job) (h more : List Event) → JobOf meta job h → JobOf meta job (h ++ more) }
     ensures answers { (meta : Meta) (answers : Answers) (h more : List Event) → AnswersOf meta answers h → AnswersOf meta answers (h ++ more) }
-{
-}
+{}

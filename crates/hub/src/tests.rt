@@ -1,4 +1,4 @@
-ghost use Rattle.std.specs.Prelude.{◌≡◌, ◌+◌, ◌^◌, ◌<◌, ◌≤◌};
+ghost use Rattle.std.specs.Prelude.{◌≡◌, ◌+◌, ◌^◌, ◌<◌, ◌≤◌, IfOk};
 
 use crate::{Answers, CommitReply, ConnReply, Hub, PublishReply, evaluate};
 use model::{Change, Meta, QueuedList, Tx};
@@ -36,86 +36,136 @@ fn insert(alloc: Global, tx: &mut Tx, id: i32, age: i32) -> Result<(), NoMemory>
     }
 }
 
+fn append_line(out: &mut Vec<u8>, text: &[u8]) -> Result<(), NoMemory> {
+    out.extend_from_slice(text)?;
+    out.push(b'\n')?;
+    Ok(())
+}
+
 /// The texts, each followed by a line end.
 fn append(out: &mut Vec<u8>, queued: &QueuedList) -> Result<(), NoMemory> {
     for said in queued.as_slice() {
-        out.extend_from_slice(said.text.as_slice())?;
-        out.push(b'\n')?;
+        append_line(out, said.text.as_slice())?;
     }
     Ok(())
 }
 
-fn say(
-    alloc: Global,
-    hub: &mut Hub,
-    text: &str,
-    out: &mut Vec<u8>,
-) -> Result<bool, NoMemory>
+fn say(alloc: Global, hub: &mut Hub, text: &str, out: &mut Vec<u8>) -> Result<(), NoMemory>
     requires { hub.old.events < 2 ^ 62 }
     ensures { hub.new.events ≤ hub.old.events + 1 }
 {
     match hub.recv(alloc, 1, text)? {
-        ConnReply::Did(effect) => {
-            append(out, &effect.queued)?;
-            Ok(true)
-        }
-        ConnReply::Unbuilt => Ok(false),
+        ConnReply::Did(effect) => append(out, &effect.queued),
+        ConnReply::Unbuilt => append_line(out, b"unbuilt"),
     }
 }
 
-/// A tick, a take and the publication of the job's answers.
-fn poll(alloc: Global, hub: &mut Hub, out: &mut Vec<u8>) -> Result<u64, NoMemory>
+fn publish(
+    alloc: Global,
+    hub: &mut Hub,
+    answers: Answers,
+    out: &mut Vec<u8>,
+) -> Result<(), NoMemory>
+    requires { hub.old.events < 2 ^ 62 }
+    ensures { hub.new.events ≤ hub.old.events + 1 }
+{
+    match hub.publish(alloc, answers) {
+        Ok(PublishReply::Published(queued)) => append(out, &queued),
+        Ok(PublishReply::NotOpen) => append_line(out, b"not open"),
+        Err(_) => Err(NoMemory),
+    }
+}
+
+/// A take and the publication of the job's answers.
+fn work(alloc: Global, hub: &mut Hub, out: &mut Vec<u8>) -> Result<(), NoMemory>
+    requires { hub.old.events + 1 < 2 ^ 62 }
+    ensures { hub.new.events ≤ hub.old.events + 2 }
+{
+    match hub.take(alloc)? {
+        Some(job) => {
+            let outcomes = evaluate(alloc, &job)?;
+            publish(alloc, hub, Answers::of(&job, outcomes), out)
+        }
+        None => append_line(out, b"none"),
+    }
+}
+
+fn poll(alloc: Global, hub: &mut Hub, out: &mut Vec<u8>) -> Result<(), NoMemory>
     requires { hub.old.events + 2 < 2 ^ 62 }
     ensures { hub.new.events ≤ hub.old.events + 3 }
 {
-    let due = hub.tick();
-    let Some(job) = hub.take(alloc)? else {
-        return Ok(due);
-    };
-    let outcomes = evaluate(alloc, &job)?;
-    match hub.publish(alloc, Answers::of(&job, outcomes)) {
-        Ok(PublishReply::Published(queued)) => append(out, &queued)?,
-        Ok(PublishReply::NotOpen) => {}
-        Err(_) => return Err(NoMemory),
-    }
-    Ok(due)
+    let _due = hub.tick();
+    work(alloc, hub, out)
 }
 
-fn commit<L: Ledger>(alloc: Global, hub: &mut Hub, blank: Blank) -> Result<bool, NoMemory>
-    requires few { hub.old.events < 2 ^ 62 }
-    requires name { blank.name ≡ L.name }
-    requires parts { blank.parts ≡ L.parts }
-    requires some { 0 < blank.parts }
+fn commit<L: Ledger>(
+    alloc: Global,
+    hub: &mut Hub,
+    tx: &Tx,
+    steps: &mut Steps<L>,
+    out: &mut Vec<u8>,
+) -> Result<(), NoMemory>
+    requires { hub.old.events < 2 ^ 62 }
     ensures { hub.new.events ≤ hub.old.events + 1 }
 {
-    let mut steps = Steps::<L>::new(blank);
+    match hub.commit(alloc, tx, steps)? {
+        CommitReply::Committed(_) => Ok(()),
+        CommitReply::Unbuilt => append_line(out, b"unbuilt"),
+    }
+}
+
+fn two_users(alloc: Global) -> Result<Tx, NoMemory> {
     let mut tx = List::new(alloc);
     insert(alloc, &mut tx, 2, -5)?;
     insert(alloc, &mut tx, 1, 40)?;
-    match hub.commit(alloc, &tx, &mut steps)? {
-        CommitReply::Committed(version) => Ok(version == 1),
-        CommitReply::Unbuilt => Ok(false),
-    }
+    Ok(tx)
+}
+
+/// A connection with a subscription, and what was queued on it.
+fn start(alloc: Global, out: &mut Vec<u8>) -> Result<Hub, NoMemory>
+    ensures { IfOk result (λ hub. hub.events ≤ 4) }
+{
+    let mut hub = Hub::new(alloc, users(alloc)?)?;
+    let _opened = hub.connect(alloc, 1)?;
+    say(alloc, &mut hub, "{\"type\":\"connection_init\"}", out)?;
+    say(alloc, &mut hub, SUBSCRIBE, out)?;
+    say(alloc, &mut hub, "{\"type\":\"ping\"}", out)?;
+    Ok(hub)
+}
+
+const SUBSCRIBE: &str =
+    "{\"type\":\"subscribe\",\"id\":\"a\",\"payload\":{\"query\":\"subscription { user { id age } }\"}}";
+
+/// The texts that are queued before a transaction and after it.
+fn texts<L: Ledger>(alloc: Global, steps: &mut Steps<L>) -> Result<Vec<u8>, NoMemory> {
+    let mut out = Vec::new(alloc);
+    let mut hub = start(alloc, &mut out)?;
+    poll(alloc, &mut hub, &mut out)?;
+    let tx = two_users(alloc)?;
+    commit(alloc, &mut hub, &tx, steps, &mut out)?;
+    poll(alloc, &mut hub, &mut out)?;
+    poll(alloc, &mut hub, &mut out)?;
+    append_line(&mut out, hub.meta().table.as_str().as_bytes())?;
+    Ok(out)
+}
+
+fn texts_from<L: Ledger>(alloc: Global, blank: Blank) -> Result<Vec<u8>, NoMemory>
+    requires name { blank.name ≡ L.name }
+    requires parts { blank.parts ≡ L.parts }
+    requires some { 0 < blank.parts }
+{
+    let mut steps = Steps::<L>::new(blank);
+    texts(alloc, &mut steps)
 }
 
 #[test]
 fn tells_the_first_result_and_then_each_change(rt: HostRuntime) -> Result<(), Fail> {
-    let alloc = rt.alloc();
-    let mut out = Vec::new(alloc);
-    let mut hub = Hub::new(alloc, users(alloc)?)?;
-    assert!(rt; matches!(hub.connect(alloc, 1)?, ConnReply::Did(_)));
-    assert!(rt; say(alloc, &mut hub, "{\"type\":\"connection_init\"}", &mut out)?);
-    assert!(rt; say(alloc, &mut hub, "{\"type\":\"subscribe\",\"id\":\"a\",\"payload\":{\"query\":\"subscription { user { id age } }\"}}", &mut out)?);
-    assert!(rt; !say(alloc, &mut hub, "{\"type\":\"ping\"}", &mut out)?);
-    assert_eq!(rt; poll(alloc, &mut hub, &mut out)?, 1);
-    assert!(rt; commit::<Brand>(alloc, &mut hub, Blank::new(1))?);
-    assert_eq!(rt; poll(alloc, &mut hub, &mut out)?, 1);
-    assert_eq!(rt; poll(alloc, &mut hub, &mut out)?, 1);
-    assert_eq!(rt; hub.events(), 13);
-    assert_eq!(rt; hub.meta().table.as_str(), "user");
+    let out = texts_from::<Brand>(rt.alloc(), Blank::new(1))?;
     let want = b"{\"type\":\"connection_ack\"}
+unbuilt
 {\"type\":\"next\",\"id\":\"a\",\"payload\":{\"data\":{\"user\":[]}}}
 {\"type\":\"next\",\"id\":\"a\",\"payload\":{\"data\":{\"user\":[{\"id\":1,\"age\":40},{\"id\":2,\"age\":-5}]}}}
+user
 ";
     assert_eq!(rt; out.as_slice(), want.as_slice());
     Ok(())

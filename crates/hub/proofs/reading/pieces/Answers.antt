@@ -15,7 +15,7 @@ loop-part-preserved c =
     let p = λ (b : ℕ). b == c.args.cut in
     let rest = c.loop-part.rest.now in
     let first = MatchOption-at_some (position_or_len p rest ≡ length rest) (λ x. (position_or_len p rest < length rest) × (x.0.now ≡ before_first p rest) × (x.1.now ≡ after_first p rest)) (c.in-Some.part, c.in-Some.after) c.in-Some.is
-        (split_once_first c.args.cut rest c.split_once.result c.split_once.ensures.cases c.requires) in
+    (split_once_first c.args.cut rest c.split_once.result c.split_once.ensures.cases c.requires) in
     let cut = pieces_cut p rest first.0 in
     let split : pieces p rest ≡ c.in-Some.part.now ∷ pieces p c.in-Some.after.now = rw (first.1, first.2) cut in
     record {
@@ -31,7 +31,7 @@ returns c =
     let p = λ (b : ℕ). b == c.args.cut in
     let rest = c.loop-part.rest.now in
     let whole = MatchOption-at_none (position_or_len p rest ≡ length rest) (λ x. (position_or_len p rest < length rest) × (x.0.now ≡ before_first p rest) × (x.1.now ≡ after_first p rest)) c.in_default.is
-        (split_once_first c.args.cut rest c.split_once.result c.split_once.ensures.cases c.requires) in
+    (split_once_first c.args.cut rest c.split_once.result c.split_once.ensures.cases c.requires) in
     ap (λ (xs : List (Bor (List ℕ))). map (λ (q : Bor (List ℕ)). q.now) xs) c.in_ok-push-2.ensures.items
     ∙ shown_end c.loop-part.parts.items c.loop-part.rest
     ∙ ap (λ (qs : List (List ℕ)). map (λ (q : Bor (List ℕ)). q.now) c.loop-part.parts.items ++ qs) (sym (pieces_whole p rest whole))
