@@ -4,10 +4,10 @@ use Rattle.std.proofs.lemmas.List.{length-map}
 use denote.Ref.{Bor}
 use Rattle.scalar_val.specs.declared.val.Val.TheVariants as val
 use Rattle.model.specs.Values.{same_text}
-use Rattle.model.specs.Queries.{Query, Selection, Columns, SubscriptionWord, Live, slice_at}
+use Rattle.model.specs.Queries.{Columns, SubscriptionWord, Live, slice_at}
 use Rattle.model.specs.Forms.{piece}
 use Rattle.model.specs.Messages.{Request}
-use Rattle.model.specs.Admission.{Session, Admission, Admits, Unread, admits, admits_selection, admits_columns, visible_in, words, query_text, selection_of, are_distinct, all_among}
+use Rattle.model.specs.Admission.{Admission, Admits, Unread, admits, admits_selection, admits_columns, visible_in, words, query_text, are_distinct, all_among}
 use Rattle.model.specs.Built.{is_admitted}
 use Rattle.model.specs.Shown.{table_of, meta_of}
 use Rattle.model.specs.declared.meta.Meta.{Meta}

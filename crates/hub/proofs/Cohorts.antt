@@ -1,8 +1,8 @@
 -- The cohorts, batches and due numbers of one subscription.
-use Rattle.std.proofs.Common.{◌≡◌, ◌∙◌, sym, ap, refl, ℕ, ◌+◌, Bool, true, false, ◌&&◌, ◌||◌, not, if◌then◌else◌, cond, Option, Some, None, List, [], ◌∷◌, filter, take}
+use Rattle.std.proofs.Common.{◌≡◌, ◌∙◌, ap, refl, ℕ, Bool, true, false, ◌&&◌, ◌||◌, not, if◌then◌else◌, cond, Some, None, List, [], ◌∷◌, take}
 use Rattle.std.specs.List.{cons_option}
 use Rattle.model.specs.State as machine
-use Rattle.model.specs.Batches.{are_polled_together, are_of_one_cohort, idle, numbers, batch, members_of, member_at, first_of_each}
+use Rattle.model.specs.Batches.{are_of_one_cohort, idle, numbers, batch, members_of, member_at, first_of_each}
 use Rattle.hub.specs.Seen.{subscription_of, first_member}
 use Rattle.hub.specs.Plans.{query_of}
 use Rattle.hub.specs.declared.parts.Subscription.{Subscription}

@@ -1,5 +1,5 @@
 -- Transactions of inserts into one table.
-use Rattle.std.proofs.Common.{◌≡◌, ◌∙◌, sym, ap, subst, refl, ℕ, ◌+◌, ◌≤◌, true, false, Option, Some, None, option_map, List, [], ◌∷◌, ◌++◌, length, map, Ordering, arith, length-append}
+use Rattle.std.proofs.Common.{◌≡◌, ◌∙◌, sym, ap, refl, ℕ, ◌+◌, ◌≤◌, false, Option, Some, None, option_map, List, [], ◌∷◌, ◌++◌, length, map, Ordering, arith, length-append}
 use Rattle.std.proofs.lemmas.List.{take-append-le, take_all}
 use Rattle.std.specs.Prelude.{take}
 use Rattle.std.specs.Option.{option_and_then}
@@ -7,20 +7,17 @@ use Rattle.std.specs.List.{AllByRecursion}
 use Rattle.std.specs.Ordering.{match_ordering}
 use Rattle.std.specs.declared.cmp.Ordering.TheVariants.{Less, Equal, Greater}
 use Rattle.scalar_val.specs.ValOrder.{val_cmp}
-use Rattle.model.specs.Rows.{Row, Table, Database, Transaction, Changed, Became, Refuses, Applied, Accepted, Refused, Refusal, KeyTaken, cell, key_of, key_cmp, also, insert_row, change_at, go_on, apply, apply_from, accepted_or, database_after, snapshot, no_rows}
-use Rattle.model.specs.Rows as rows
-use Rattle.model.specs.Admission.{Meta}
+use Rattle.model.specs.Rows.{Row, Table, Database, Transaction, Changed, Became, Refuses, Applied, Accepted, Refused, KeyTaken, cell, key_cmp, also, insert_row, go_on, apply, apply_from, accepted_or, database_after, snapshot, no_rows}
 use Rattle.model.specs.State.{State, Event, Job, Commit, Committed, Step}
 use Rattle.model.specs.Run.{happens, run, database_now, commit}
-use Rattle.model.specs.Publication.{database_of}
-use Rattle.model.specs.Built.{is_built, is_accepted}
+use Rattle.model.specs.Built.{is_accepted}
 use Rattle.model.specs.Shown.{table_of, change_of, transaction_of}
 use Rattle.model.specs.declared.change.Change.{Change}
 use Rattle.model.specs.declared.change.Change.TheVariants.{Insert}
 use Rattle.model.specs.declared.meta.Meta as plain
 use Rattle.hub.specs.State.{Kept, state_of}
 use Rattle.hub.specs.Stands.{IsOpen, StandsFor, Happened, Does}
-use Rattle.hub.specs.Inserts.{inserted, inserted_all, row_of}
+use Rattle.hub.specs.Inserts.{inserted, inserted_all}
 use Rattle.hub.specs.Jobs.{Taking, takings}
 use Rattle.hub.proofs.Histories.{run-push, taken-longer}
 use Rattle.hub.proofs.Stands.{no_taking}

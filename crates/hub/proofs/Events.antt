@@ -1,5 +1,5 @@
 -- The events of one connection and one subscription.
-use Rattle.std.proofs.Common.{◌≡◌, ◌∙◌, sym, ap, subst, refl, ℕ, ◌+◌, ◌==◌, Bool, true, false, ◌&&◌, not, cond, Option, Some, None, option_map, List, [], ◌∷◌, ◌++◌, length, is_some, inl, inr}
+use Rattle.std.proofs.Common.{◌≡◌, ◌∙◌, ap, subst, refl, ℕ, ◌+◌, ◌==◌, Bool, true, false, not, cond, Option, Some, None, option_map, List, [], ◌∷◌, ◌++◌, length, is_some, inl, inr}
 use Rattle.scalar_val.specs.declared.val.Val.TheVariants as val
 use Rattle.model.specs.Rows.{Transaction}
 use Rattle.model.specs.Messages as messages
@@ -23,7 +23,7 @@ use Rattle.hub.specs.declared.parts.Subscription.{Subscription}
 use Rattle.hub.specs.declared.parts.Standing.{Standing}
 use Rattle.hub.specs.declared.parts.Standing.TheVariants.{Idle, Due, Open}
 use Rattle.hub.specs.declared.center.Hub.TheInside.{Inside}
-use Rattle.hub.proofs.Stands.{StepsTo, does}
+use Rattle.hub.proofs.Stands.{does}
 use Rattle.hub.proofs.Same.{number_own, number_same, and_left, and_right}
 use Rattle.hub.proofs.Cohorts.{idle_free, idle_busy}
 

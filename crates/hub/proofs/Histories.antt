@@ -1,8 +1,8 @@
 -- Runs and takes of longer histories.
-use Rattle.std.proofs.Common.{◌≡◌, ◌∙◌, sym, ap, subst, refl, ℕ, zero, suc, ◌-◌, Option, Some, None, List, [], ◌∷◌, ◌++◌, length, append-nil, append_assoc}
+use Rattle.std.proofs.Common.{◌≡◌, ◌∙◌, sym, ap, refl, ℕ, zero, suc, Some, List, [], ◌∷◌, ◌++◌, length, append-nil, append_assoc}
 use Rattle.std.specs.Prelude.{slice_get}
 use Rattle.model.specs.Admission.{Meta}
-use Rattle.model.specs.State.{State, Event, Reply, opening}
+use Rattle.model.specs.State.{State, Event, opening}
 use Rattle.model.specs.Run.{happens, after_all, run}
 use Rattle.hub.specs.Jobs.{Taking, taking_of, takings_from, takings, JobOf, AnswersOf}
 use Rattle.hub.specs.declared.job.Job.{Job}

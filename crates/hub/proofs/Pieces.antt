@@ -1,8 +1,8 @@
 -- The pieces of a text, by its first cut.
-use Rattle.std.proofs.Common.{◌≡◌, ◌∙◌, ap, refl, ℕ, suc, ◌+◌, ◌<◌, Bool, true, false, if◌then◌else◌, List, [], ◌∷◌, ◌++◌, map, length, arith}
+use Rattle.std.proofs.Common.{◌≡◌, ap, refl, ℕ, suc, ◌+◌, ◌<◌, Bool, true, false, List, [], ◌∷◌, ◌++◌, map, length, arith}
 use denote.Ref.{Bor}
 use Rattle.std.specs.List.{position_or_len, before_first, after_first}
-use Rattle.model.specs.Values.{pieces, onto_first}
+use Rattle.model.specs.Values.{pieces}
 
 one_more : (n : ℕ) → 1 + n ≡ suc n
 one_more n = omega arith

@@ -1,9 +1,9 @@
 -- Places of names.
-use Rattle.std.proofs.Common.{◌≡◌, ◌∙◌, ap, sym, refl, ℕ, ◌+◌, ◌<◌, Bool, true, false, Option, Some, None, List, [], ◌∷◌, ◌++◌, map, take, drop, length, get_or}
+use Rattle.std.proofs.Common.{◌≡◌, ◌∙◌, ap, sym, refl, ℕ, ◌+◌, ◌<◌, Bool, true, false, Some, None, List, [], ◌∷◌, ◌++◌, map, take, drop, length, get_or}
 use Rattle.std.proofs.lemmas.List.{drop_more, map_push, map_more}
 use denote.Ref.{Bor}
 use Rattle.model.specs.Admission.{all_among}
-use Rattle.std.specs.List.{position_from, list_any, AllByRecursion}
+use Rattle.std.specs.List.{position_from, list_any}
 use Rattle.model.specs.Values.{same_text}
 use Rattle.model.specs.Queries.{place_of}
 use Rattle.hub.specs.declared.plan.Field.{Field}

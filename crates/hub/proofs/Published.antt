@@ -1,12 +1,10 @@
 -- Publications of the one open job.
-use Rattle.std.proofs.Common.{◌≡◌, ◌∙◌, sym, ap, subst, refl, ℕ, ◌+◌, ◌-◌, ◌==◌, Bool, true, false, not, cond, Option, Some, None, option_map, List, [], ◌∷◌, ◌++◌, length, map, slice_get, inl, inr}
-use Rattle.std.specs.List.{AllByRecursion}
+use Rattle.std.proofs.Common.{◌≡◌, ◌∙◌, sym, ap, subst, refl, ℕ, ◌+◌, ◌-◌, Bool, true, false, cond, Option, Some, None, option_map, List, [], ◌∷◌, map, slice_get, inl}
 use Rattle.scalar_val.specs.declared.val.Val.TheVariants as val
 use Rattle.std.proofs.lemmas.Option.{same_Some}
 use Rattle.model.specs.Rows.{Transaction, Database, snapshot}
 use Rattle.model.specs.Admission.{Meta}
 use Rattle.model.specs.Queries.{Result, result}
-use Rattle.model.specs.Messages.{next_text}
 use Rattle.model.specs.State as machine
 use Rattle.model.specs.State.{State, Event, Publish, Published, Queued}
 use Rattle.model.specs.Values.{same_text}
@@ -14,10 +12,10 @@ use Rattle.model.specs.Publication.{database_of, is_new, publish, publish_live, 
 use Rattle.model.specs.Run.{happens}
 use Rattle.model.specs.Shown.{meta_of}
 use Rattle.hub.specs.State.{Kept, state_of}
-use Rattle.hub.specs.Stands.{IsOpen, StandsFor, Happened}
-use Rattle.hub.specs.Jobs.{Taking, takings, AnswersOf, AreResults, result_of, result_for}
+use Rattle.hub.specs.Stands.{StandsFor, Happened}
+use Rattle.hub.specs.Jobs.{Taking, takings, AnswersOf, AreResults, result_of}
 use Rattle.hub.specs.Plans.{query_of}
-use Rattle.hub.specs.Parts.{by_option, by_subscription, changed, stands_as, has_number, first_text, next_for, next_of, told_with, queued_with, remembered, remembers}
+use Rattle.hub.specs.Parts.{by_option, by_subscription, changed, stands_as, has_number, first_text, next_for, next_of, told_with, queued_with, remembered}
 use Rattle.hub.specs.Seen.{seen, subscription_of, first_member, due_of, jobs_of}
 use Rattle.hub.specs.declared.job.Outcome.{Outcome}
 use Rattle.hub.specs.declared.job.Answers.{Answers}
@@ -26,7 +24,7 @@ use Rattle.hub.specs.declared.parts.Subscription.{Subscription}
 use Rattle.hub.specs.declared.parts.Standing.{Standing}
 use Rattle.hub.specs.declared.parts.Standing.TheVariants.{Idle, Due, Open}
 use Rattle.hub.specs.declared.center.Hub.TheInside.{Inside}
-use Rattle.hub.proofs.Stands.{StepsTo, happened}
+use Rattle.hub.proofs.Stands.{happened}
 use Rattle.hub.proofs.Same.{number_own, number_same, text_same, not_not}
 
 abbrev old : Inside → Connection → Subscription → ℕ → ℕ → Kept

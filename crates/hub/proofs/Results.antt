@@ -1,13 +1,12 @@
 -- A plan's result is that of its query.
-use Rattle.std.proofs.Common.{◌≡◌, ◌∙◌, sym, ap, refl, ℕ, Bool, true, false, ◌&&◌, cond, Option, Some, None, List, [], ◌∷◌, ◌++◌, map, length, filter, codes}
-use Rattle.std.specs.List.{AllByRecursion}
+use Rattle.std.proofs.Common.{◌≡◌, ◌∙◌, ap, refl, ℕ, Bool, cond, Option, Some, None, List, [], ◌∷◌, ◌++◌, map, length, filter}
 use Rattle.json.specs.Print.{quoted}
 use Rattle.scalar_val.specs.declared.val.Val.TheVariants as val
 use Rattle.scalar_val.specs.ValText.{val_text}
 use Rattle.model.specs.Values.{joined}
-use Rattle.model.specs.Rows.{Row, Database, Table, Always}
-use Rattle.model.specs.Queries.{SessionValue, Query, Result, result, list_result, slice_at, table_place, place_of, pair_text, object_text, value_at, payload_text, is_shown, matches}
-use Rattle.model.specs.Shown.{table_of, meta_of}
+use Rattle.model.specs.Rows.{Row, Database, Always}
+use Rattle.model.specs.Queries.{SessionValue, result, list_result, slice_at, table_place, place_of, pair_text, object_text, value_at, payload_text, is_shown}
+use Rattle.model.specs.Shown.{table_of}
 use Rattle.model.specs.declared.meta.Meta.{Meta}
 use Rattle.hub.specs.declared.plan.Field.{Field}
 use Rattle.hub.specs.declared.plan.Plan.{Plan}

@@ -1,12 +1,10 @@
 -- What a hub stands for after one more event.
-use Rattle.std.proofs.Common.{◌≡◌, ◌∙◌, sym, ap, subst, refl, ℕ, ◌+◌, ◌-◌, ◌≤◌, Bool, true, false, Option, Some, None, List, [], ◌∷◌, ◌++◌, length, inl, inr, arith, length-append, append-nil}
+use Rattle.std.proofs.Common.{◌≡◌, ◌∙◌, sym, ap, subst, ◌+◌, true, false, List, [], ◌∷◌, ◌++◌, length, inl, inr, arith, length-append, append-nil}
 use mathlib.Core.Logic.{◌⊎◌}
-use Rattle.std.specs.Prelude.{slice_get}
 use Rattle.std.specs.List.{AllByRecursion}
-use Rattle.model.specs.Rows.{Transaction, snapshot}
+use Rattle.model.specs.Rows.{Transaction}
 use Rattle.model.specs.Admission.{Meta}
 use Rattle.model.specs.State.{State, Event, Reply, Queued, Job, Step}
-use Rattle.model.specs.Publication.{database_of}
 use Rattle.model.specs.Run.{happens, run}
 use Rattle.model.specs.Built.{is_built}
 use Rattle.hub.specs.State.{Kept, state_of}

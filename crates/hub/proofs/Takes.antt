@@ -1,19 +1,18 @@
 -- Takes of one subscription.
-use Rattle.std.proofs.Common.{◌≡◌, ◌∙◌, sym, ap, subst, refl, ℕ, ◌+◌, ◌-◌, ◌<◌, ◌≤◌, Bool, true, false, Option, Some, None, option_map, List, [], ◌∷◌, ◌++◌, length, map, slice_get, arith, length-append}
+use Rattle.std.proofs.Common.{◌≡◌, ◌∙◌, sym, ap, subst, refl, ℕ, ◌+◌, ◌-◌, ◌<◌, Option, Some, None, option_map, List, [], ◌∷◌, ◌++◌, length, slice_get, arith, length-append}
 use Rattle.scalar_val.specs.declared.val.Val.TheVariants as val
 use Rattle.std.proofs.lemmas.Option.{same_Some}
 use Rattle.model.specs.Rows.{Transaction, Database, snapshot}
 use Rattle.model.specs.Queries.{Result, result}
 use Rattle.model.specs.State as machine
 use Rattle.model.specs.State.{State, Event, Take, Nobody, Taken, Step, silent}
-use Rattle.model.specs.Batches.{taken_with, next_job, subscription_at}
+use Rattle.model.specs.Batches.{taken_with, next_job}
 use Rattle.model.specs.Publication.{database_of}
 use Rattle.model.specs.Run.{happens, run}
-use Rattle.model.specs.Built.{is_built}
 use Rattle.model.specs.Shown.{meta_of}
 use Rattle.hub.specs.State.{Kept, state_of}
-use Rattle.hub.specs.Stands.{IsOpen, StandsFor, Happened, Does}
-use Rattle.hub.specs.Jobs.{Taking, takings, taking_of, JobOf, job_of, AreResults, evaluated, result_for}
+use Rattle.hub.specs.Stands.{StandsFor, Happened, Does}
+use Rattle.hub.specs.Jobs.{Taking, takings, taking_of, JobOf, job_of, result_for}
 use Rattle.hub.specs.Plans.{query_of, planned, IsPlan}
 use Rattle.hub.specs.Parts.{by_option, by_subscription, changed, stands_as, plan_if}
 use Rattle.hub.specs.Seen.{seen, first_member, due_of, Planned, PlannedBy}

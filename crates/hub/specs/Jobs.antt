@@ -1,5 +1,5 @@
 -- What the takes of a history gave, and which jobs and answers are theirs. This project's own.
-use Rattle.std.specs.Prelude.{◌≡◌, ℕ, ◌-◌, Option, Some, List, [], ◌∷◌, ◌++◌, map, slice_get}
+use Rattle.std.specs.Prelude.{◌≡◌, ◌-◌, Option, Some, List, [], ◌∷◌, ◌++◌, map, slice_get}
 use Rattle.std.specs.Option.{option_map}
 use Rattle.std.specs.List.{AllByRecursion}
 use Rattle.model.specs.Rows.{Database}

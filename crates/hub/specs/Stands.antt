@@ -1,5 +1,5 @@
 -- Which histories a hub stands for, and what it says of an event. This project's own.
-use Rattle.std.specs.Prelude.{◌≡◌, ℕ, ◌-◌, ◌+◌, ◌≤◌, true, Some, List, [], ◌∷◌, ◌++◌, length, slice_get}
+use Rattle.std.specs.Prelude.{◌≡◌, ◌-◌, ◌+◌, ◌≤◌, true, Some, List, [], ◌∷◌, ◌++◌, length, slice_get}
 use Rattle.std.specs.List.{AllByRecursion}
 use Rattle.model.specs.Rows.{Transaction, snapshot}
 use Rattle.model.specs.State.{Event, Reply, Queued, Job}

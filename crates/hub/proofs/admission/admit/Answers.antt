@@ -1,7 +1,7 @@
-use Rattle.std.proofs.Common.{◌≡◌, ◌∙◌, sym, ap, ℕ, true, false, List, map, take, drop, length, ◌-◌, Some, None}
+use Rattle.std.proofs.Common.{◌≡◌, ◌∙◌, ap, ℕ, true, List, map, take, drop, length, ◌-◌}
 use denote.Ref.{Bor}
 use Rattle.model.specs.Values.{same_text}
-use Rattle.model.specs.Admission.{query_text, are_distinct, all_among}
+use Rattle.model.specs.Admission.{query_text}
 use Rattle.model.specs.Forms.{piece}
 use Rattle.hub.proofs.Admits.{table_in, columns_in, table_found, columns_found, form_found, table_same, fields_no, distinct_no, plan_yes, fields_yes, no_form, no_table, no_columns, not_distinct}
 use Rattle.hub.proofs.admission.admit.Goals as goal

@@ -1,4 +1,4 @@
-use Rattle.std.proofs.Common.{◌≡◌, ◌∙◌, sym, ap, subst, refl, ℕ, ◌+◌, ◌<◌, true, false, ◌&&◌, Some, None, List, [], ◌∷◌, ◌++◌, map, take, drop, get_or, arith}
+use Rattle.std.proofs.Common.{◌≡◌, ◌∙◌, sym, ap, ℕ, Some, List, [], ◌∷◌, ◌++◌, get_or, arith}
 use denote.Ref.{Bor}
 use Rattle.model.specs.Queries.{place_of}
 use Rattle.hub.specs.declared.plan.Field.{Field}

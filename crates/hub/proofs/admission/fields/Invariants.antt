@@ -1,4 +1,4 @@
-use Rattle.std.proofs.Common.{◌≡◌, true, map, take, drop}
+use Rattle.std.proofs.Common.{◌≡◌, map, take, drop}
 use Rattle.model.specs.Admission.{all_among}
 use Rattle.hub.specs.declared.plan.Field.{Field}
 use Rattle.hub.specs.Plans.{ArePlaced}

@@ -1,5 +1,5 @@
-use Rattle.std.proofs.Common.{◌≡◌, ◌∙◌, sym, refl, ℕ, List, [], length, map, take, drop, arith}
-use Rattle.std.proofs.lemmas.List.{take-map, drop-map, drop_all, take_all, take_rest, length-map}
+use Rattle.std.proofs.Common.{sym, refl, map, take, arith}
+use Rattle.std.proofs.lemmas.List.{take-map, drop-map, drop_all, take_rest, length-map}
 use Rattle.hub.proofs.admission.selected.Goals as goal
 
 pub returns-then-front-lt4 : goal.returns-then-front-lt4

@@ -1,7 +1,4 @@
-use Rattle.std.proofs.Common.{◌≡◌, sym, subst, List, []}
-use Rattle.model.specs.State.{Connect, Did}
-use Rattle.hub.specs.State.{Kept}
-use Rattle.hub.specs.Stands.{Does}
+use Rattle.std.proofs.Common.{sym}
 use Rattle.hub.proofs.Events.{connects}
 use Rattle.hub.proofs.center.Hub.connect.Goals as goal
 

@@ -1,4 +1,4 @@
-use Rattle.std.proofs.Common.{◌≡◌, ◌∙◌, sym}
+use Rattle.std.proofs.Common.{◌∙◌, sym}
 use Rattle.hub.proofs.Events.{inits}
 use Rattle.hub.proofs.center.Hub.init.Goals as goal
 

@@ -1,4 +1,4 @@
-use Rattle.std.proofs.Common.{◌≡◌, ◌∙◌, sym, subst, None, Some}
+use Rattle.std.proofs.Common.{◌∙◌, sym, subst, None, Some}
 use Rattle.model.specs.Admission.{admits}
 use Rattle.model.specs.Shown.{meta_of}
 use Rattle.hub.specs.Plans.{administrator, IsPlanOf}

@@ -1,4 +1,4 @@
-use Rattle.std.proofs.Common.{◌≡◌, ◌∙◌, sym}
+use Rattle.std.proofs.Common.{◌∙◌, sym}
 use Rattle.hub.proofs.Takes.{idles, takes}
 use Rattle.hub.proofs.center.Hub.take.Goals as goal
 

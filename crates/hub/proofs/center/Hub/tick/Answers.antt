@@ -1,4 +1,4 @@
-use Rattle.std.proofs.Common.{◌≡◌, ◌∙◌, sym}
+use Rattle.std.proofs.Common.{◌∙◌, sym}
 use Rattle.hub.proofs.Events.{ticks_none, ticks_due}
 use Rattle.hub.proofs.center.Hub.tick.Goals as goal
 
