@@ -124,3 +124,14 @@ ends_front (run_end.ScriptFault line reason) old new before all h e = absurd (el
 ends_front run_end.SourceFault old new before all h e = absurd (elim h [ inl e ↦ (cc) | inr e ↦ (cc) ])
 ends_front run_end.SinkFault old new before all h e = e
 ends_front run_end.NoMemory old new before all h e = e
+
+pub none_some : (o : Option (ℕ × Reason)) (x : ℕ × Reason) → o ≡ None → o ≡ Some x → ⊥
+none_some o x e f = let g : None ≡ Some x = sym e ∙ f in cc
+
+-- a script without a fault, where nothing else fails
+pub answered_by : (end : RunEnd) (fault : Option (ℕ × Reason)) → EndsAs end fault → fault ≡ None → end ≢ run_end.SourceFault → end ≢ run_end.SinkFault → (end ≡ run_end.Done) ⊎ (end ≡ run_end.NoMemory)
+answered_by run_end.Done fault e none source sink = inl refl
+answered_by (run_end.ScriptFault line reason) fault e none source sink = absurd (none_some fault (line, reason_of reason) none e)
+answered_by run_end.SourceFault fault e none source sink = absurd (source refl)
+answered_by run_end.SinkFault fault e none source sink = absurd (sink refl)
+answered_by run_end.NoMemory fault e none source sink = inr refl

@@ -53,3 +53,8 @@ failed_not_done e = cc
 
 pub no_memory_not_done : wrote.NoMemory ≢ wrote.Done
 no_memory_not_done e = cc
+
+pub front_of_all : (old new : Option (List ℕ)) (bytes : List ℕ) → WritesAll old new bytes → WritesFront old new bytes
+front_of_all old new bytes wrote w told =
+    let same : bytes ≡ take (length bytes) bytes = grind (arith, common_steps) in
+    (length bytes, wrote w told ∙ ap (λ (xs : List ℕ). Some (w ++ xs)) same)

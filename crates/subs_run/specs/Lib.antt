@@ -4,3 +4,4 @@ pub mod Events
 pub mod Progress
 pub mod Standing
 pub mod Turns
+pub mod Words

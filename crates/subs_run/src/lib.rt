@@ -4,6 +4,7 @@
 
 mod answer;
 mod event;
+mod main_call;
 mod poll;
 mod progress;
 mod put;
@@ -12,4 +13,8 @@ mod script;
 mod taken;
 
 pub use answer::{RunEnd, ScriptReason};
+pub use main_call::run_main;
 pub use script::run_script;
+
+#[cfg(test)]
+mod tests;

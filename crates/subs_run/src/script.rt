@@ -43,6 +43,9 @@ pub fn run_script<S: Source, K: Sink, L: Ledger>(
 
     // Ends that tell that they never fail bring neither fault.
     ensures complete { S.never_fails source.old → K.never_fails sink.old → (result ≢ RunEnd.SourceFault) × (result ≢ RunEnd.SinkFault) }
+
+    // Then a script without a fault is run whole.
+    ensures answered { S.never_fails source.old → K.never_fails sink.old → (all : List ℕ) → S.left source.old ≡ Some all → (outcome all).fault ≡ None → (result ≡ RunEnd.Done) ⊎ (result ≡ RunEnd.NoMemory) }
 {
     let mut reader = Reader::new(alloc);
     let mut buf = [0u8; PIECE];

@@ -1,0 +1,8 @@
+use Rattle.model.specs.Script.{outcome}
+use Rattle.subs_run.proofs.Outcomes.{answered_by}
+use Rattle.subs_run.proofs.script.run_script.Goals as goal
+
+pub returns-clause-answered : goal.returns-clause-answered
+returns-clause-answered g c s k all told none =
+    let never = c.run_from.ensures.complete s k in
+    answered_by c.run_from.result (outcome all).fault (c.run_from.ensures.closed.fault all told) none never.0 never.1

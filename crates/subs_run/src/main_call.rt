@@ -1,0 +1,96 @@
+ghost use Rattle.std.specs.Prelude.{◌≡◌, ◌≢◌, ◌≤◌, ◌⊎◌, ◌++◌, true, false, ℕ, List, Some, None, map, string_bytes};
+ghost use Rattle.outside.specs.Ends.{Rose};
+ghost use Rattle.model.specs.Script.{Reason, outcome, output};
+ghost use Rattle.subs_run.specs.Runs.{HasRead, ReadWhole, WroteWholeLines, WroteFront};
+ghost use Rattle.subs_run.specs.Words.{is_run, usage_line, answer_text};
+ghost use Rattle.subs_run.specs.Written.{WritesAll, WritesFront};
+
+use crate::answer::RunEnd;
+use crate::put::{Wrote, write_all};
+use crate::script::run_script;
+use outside::{Sink, Source};
+use scalar_val::Steps;
+use std::alloc::Global;
+use std::sync::ledger::Ledger;
+
+/// Does what the words of the command line ask for, and answers the exit status. The word `run` alone runs the script
+/// that the source gives. So far there is no other command.
+///
+/// | status | when |
+/// |---|---|
+/// | 0 | the whole script was read and its transcript written |
+/// | 1 | the source failed; the transcript of the lines that were whole was written |
+/// | 2 | the script is at fault; its transcript up to there and the fault's line were written |
+/// | 3 | the sink failed; a front of what else would be written was written |
+/// | 4 | memory was refused; a front of what else would be written was written |
+/// | 5 | the words are no command, and the usage line was written; nothing was read |
+pub fn run_main<S: Source, K: Sink, L: Ledger>(
+    alloc: Global,
+    words: &[String],
+    source: &mut S,
+    sink: &mut K,
+    steps: &mut Steps<L>,
+) -> u8
+    ensures statuses { result ≤ 5 }
+
+    // 0 and 2: the whole output was written.
+    ensures done { result ≡ 0 → (all : List ℕ) → S.left source.old ≡ Some all → ReadWhole all (S.left source.new) }
+    ensures fault { result ≡ 2 → (all : List ℕ) → S.left source.old ≡ Some all → (line : ℕ) × ((reason : Reason) × ((outcome all).fault ≡ Some (line, reason))) }
+    ensures whole { (result ≡ 0) ⊎ (result ≡ 2) → (all w : List ℕ) → S.left source.old ≡ Some all → K.written sink.old ≡ Some w → K.written sink.new ≡ Some (w ++ output all) }
+
+    // 1: the source failed. What was written is the transcript of the lines that were whole, none of them at fault.
+    ensures source_fault { result ≡ 1 → Rose (S.faults source.old) (S.faults source.new) }
+    ensures source_lines { result ≡ 1 → (all w : List ℕ) → S.left source.old ≡ Some all → K.written sink.old ≡ Some w → WroteWholeLines all w (S.left source.new) (K.written sink.new) }
+
+    // 3: the sink failed. What was written is a front of what 0, 2 or 5 would write, as for want of memory.
+    ensures sink_fault { result ≡ 3 → Rose (K.faults sink.old) (K.faults sink.new) }
+    ensures front { (result ≡ 3) ⊎ (result ≡ 4) → (all w : List ℕ) → S.left source.old ≡ Some all → K.written sink.old ≡ Some w → WroteFront (answer_text (map string_bytes words.now) all) w (K.written sink.new) }
+
+    // 5: the words are no command.
+    ensures run_alone { is_run (map string_bytes words.now) ≡ true → result ≢ 5 }
+    ensures usage { is_run (map string_bytes words.now) ≡ false → (result ≡ 5) ⊎ ((result ≡ 3) ⊎ (result ≡ 4)) }
+    ensures usage_written { result ≡ 5 → (w : List ℕ) → K.written sink.old ≡ Some w → K.written sink.new ≡ Some (w ++ usage_line) }
+    ensures usage_front { is_run (map string_bytes words.now) ≡ false → (w : List ℕ) → K.written sink.old ≡ Some w → WroteFront usage_line w (K.written sink.new) }
+    ensures unread { is_run (map string_bytes words.now) ≡ false → source.new ≡ source.old }
+
+    // No more than one byte past the limit is read.
+    ensures reads { (all : List ℕ) → S.left source.old ≡ Some all → HasRead all (S.left source.new) }
+
+    // Ends that tell that they never fail bring neither fault, and then a script without a fault is run whole.
+    ensures complete { S.never_fails source.old → K.never_fails sink.old → (result ≢ 1) × (result ≢ 3) }
+    ensures answered { S.never_fails source.old → K.never_fails sink.old → is_run (map string_bytes words.now) ≡ true → (all : List ℕ) → S.left source.old ≡ Some all → (outcome all).fault ≡ None → (result ≡ 0) ⊎ (result ≡ 4) }
+{
+    if !is_run(words) {
+        return write_usage(sink);
+    }
+    match run_script(alloc, source, sink, steps) {
+        RunEnd::Done => 0,
+        RunEnd::SourceFault => 1,
+        RunEnd::ScriptFault { .. } => 2,
+        RunEnd::SinkFault => 3,
+        RunEnd::NoMemory => 4,
+    }
+}
+
+fn is_run(words: &[String]) -> bool
+    ensures { result ≡ is_run (map string_bytes words.now) }
+{
+    match words {
+        [word] => word.as_bytes() == b"run".as_slice(),
+        _ => false,
+    }
+}
+
+fn write_usage<K: Sink>(sink: &mut K) -> u8
+    ensures statuses { (result ≡ 5) ⊎ ((result ≡ 3) ⊎ (result ≡ 4)) }
+    ensures written { result ≡ 5 → WritesAll (K.written sink.old) (K.written sink.new) usage_line }
+    ensures front { WritesFront (K.written sink.old) (K.written sink.new) usage_line }
+    ensures failed { result ≡ 3 → Rose (K.faults sink.old) (K.faults sink.new) }
+    ensures steady { K.never_fails sink.old → result ≢ 3 }
+{
+    match write_all(sink, b"usage: subs COMMAND [WORDS]\n") {
+        Wrote::Done => 5,
+        Wrote::Failed => 3,
+        Wrote::NoMemory => 4,
+    }
+}
