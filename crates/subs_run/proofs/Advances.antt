@@ -35,14 +35,16 @@ running_advances t p k k' n line reading before after is h st ran =
 -- The metadata's end
 
 begun_at : (m : Option Meta) (k : Kept) (n : ℕ) (before : List ℕ) → Begins m (Some k) → Advances taken.Went (begin m) (progress.Running k) (n + 1) before before
-begun_at (Some meta) k n before b =
-    (record {
-      history = [];
-      stands = b.stands;
-      is = ap (λ (x : Meta). Running x opening) (sym b.meta_is);
-      few = omega (arith, kept_subs k [] b.stands);
-      bounded = omega (arith, b.events);
-    }, sym (append-nil before))
+begun_at (Some meta) k n before b = (
+  record {
+    history = [];
+    stands = b.stands;
+    is = ap (λ (x : Meta). Running x opening) (sym b.meta_is);
+    few = omega (arith, kept_subs k [] b.stands);
+    bounded = omega (arith, b.events);
+  },
+  sym (append-nil before),
+)
 begun_at None k n before b = absurd b
 
 not_begun_at : (m : Option Meta) (p : Progress) (n : ℕ) (before : List ℕ) → Begins m None → Advances (taken.Faulty reason.Unbuilt) (begin m) p n before before

@@ -39,14 +39,16 @@ nobody meta s (Some first) e = absurd (cc)
 
 pub took_none : (k k' : Kept) (h : List Event) (before : List ℕ) → Does k k' Take Nobody [] → k.due ≡ [] → StandsFor k h → TookOne false k k' h before before
 took_none k k' h before does none st =
-    let hp : Happened k k' h Take Nobody [] = does.happened h st in
-    (kept_due k h st ∙ none, record {
-      history = h ++ Take ∷ [];
-      stands = hp.stands;
-      meta = does.meta;
-      state = ap (λ (s : Step). s.state) (sym hp.step) ∙ nobody k.meta (run k.meta h) (find (is_due (run k.meta h).due) (run k.meta h).subscriptions) (ap (λ (s : Step). s.reply) hp.step);
-      text = sym (append-nil before);
-    })
+    let hp : Happened k k' h Take Nobody [] = does.happened h st in (
+      kept_due k h st ∙ none,
+      record {
+        history = h ++ Take ∷ [];
+        stands = hp.stands;
+        meta = does.meta;
+        state = ap (λ (s : Step). s.state) (sym hp.step) ∙ nobody k.meta (run k.meta h) (find (is_due (run k.meta h).due) (run k.meta h).subscriptions) (ap (λ (s : Step). s.reply) hp.step);
+        text = sym (append-nil before);
+      },
+    )
 
 -- A job that was just taken is open
 
@@ -103,14 +105,16 @@ took_some k k1 k2 h j n v queued before mid after does number fewer same hp2 tel
     let h1 : List Event = h ++ Take ∷ [] in
     let second : goes_publish k.meta t t.taken ≡ goes_publish k1.meta (run k1.meta h1) n = ap (goes_publish k.meta t) (taken_after k k1 h j n does st number) ∙ (ap (λ (x : State). goes_publish k.meta x n) (after_take k k1 h j does st) ∙ ap (λ (m : Meta). goes_publish m (run k1.meta h1) n) (sym does.meta)) in
     let text1 : mid ≡ before ++ transcript Take (happens k.meta s Take) = told_by k k1 h Take (Taken j) [] before mid hp tells in
-    let text2 : after ≡ mid ++ (goes_publish k1.meta (run k1.meta h1) n).text = told_by k1 k2 h1 (Publish n) (Published v) queued mid after hp2 tells2 in
-    (omega (arith, fewer, ap (λ (xs : List ℕ). length xs) (kept_due k h st)), record {
-      history = h1 ++ Publish n ∷ [];
-      stands = hp2.stands;
-      meta = same ∙ does.meta;
-      state = ap (λ (m : Meta). run m (h1 ++ Publish n ∷ [])) (sym does.meta) ∙ (ap (λ (x : Step). x.state) (sym hp2.step) ∙ ap (λ (r : Reached). r.state) (sym second));
-      text = text2 ∙ (ap (λ (r : Reached). mid ++ r.text) (sym second) ∙ (ap (λ (xs : List ℕ). xs ++ (goes_publish k.meta t t.taken).text) text1 ∙ append_assoc before (transcript Take (happens k.meta s Take)) (goes_publish k.meta t t.taken).text));
-    })
+    let text2 : after ≡ mid ++ (goes_publish k1.meta (run k1.meta h1) n).text = told_by k1 k2 h1 (Publish n) (Published v) queued mid after hp2 tells2 in (
+      omega (arith, fewer, ap (λ (xs : List ℕ). length xs) (kept_due k h st)),
+      record {
+        history = h1 ++ Publish n ∷ [];
+        stands = hp2.stands;
+        meta = same ∙ does.meta;
+        state = ap (λ (m : Meta). run m (h1 ++ Publish n ∷ [])) (sym does.meta) ∙ (ap (λ (x : Step). x.state) (sym hp2.step) ∙ ap (λ (r : Reached). r.state) (sym second));
+        text = text2 ∙ (ap (λ (r : Reached). mid ++ r.text) (sym second) ∙ (ap (λ (xs : List ℕ). xs ++ (goes_publish k.meta t t.taken).text) text1 ∙ append_assoc before (transcript Take (happens k.meta s Take)) (goes_publish k.meta t t.taken).text));
+      },
+    )
 
 -- the answers that were evaluated
 pub are_answers : (meta : Meta) (answers : Answers) (n v : ℕ) (outcomes : List Outcome) (h : List Event) → answers.number ≡ n → answers.version ≡ v → answers.outcomes ≡ outcomes → AnswersOf meta (record { number = n; version = v; outcomes = outcomes }) h → AnswersOf meta answers h

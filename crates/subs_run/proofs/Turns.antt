@@ -79,15 +79,17 @@ not_source run_end.NoMemory old new before n = (λ e. cc, λ e. cc)
 pub turned : (t : Turn) (left mid left' written old new : Option (List ℕ)) (reader after : Reader) (buf : List ℕ) (count n : ℕ) (a : IsAt left mid written old reader count) → Takes mid left' (got.Bytes n) buf → 0 < n → n ≤ length buf → count + n ≤ limit → TakesTo t after old new a.seen (take n buf) → TurnedTo t left left' written new after count
 turned (turn.Took m) left mid left' written old new reader after buf count n a takes some within few took =
     let long : length (take n buf) ≡ n = length-take-le n buf within in
-    let m_is : m ≡ n = took.2 ∙ long in
-    (record {
-      seen = a.seen ++ take n buf;
-      after = took.0;
-      read = read_more left mid left' a.seen buf n a.read takes;
-      lines = λ w told. took.1 w (a.lines w told);
-      count_is = omega (arith, length-append a.seen (take n buf), a.count_is, m_is, long);
-      within = omega (arith, m_is);
-    }, omega (arith, m_is))
+    let m_is : m ≡ n = took.2 ∙ long in (
+      record {
+        seen = a.seen ++ take n buf;
+        after = took.0;
+        read = read_more left mid left' a.seen buf n a.read takes;
+        lines = λ w told. took.1 w (a.lines w told);
+        count_is = omega (arith, length-append a.seen (take n buf), a.count_is, m_is, long);
+        within = omega (arith, m_is);
+      },
+      omega (arith, m_is),
+    )
 turned (turn.Ended end) left mid left' written old new reader after buf count n a takes some within few took =
     let long : length (take n buf) ≡ n = length-take-le n buf within in
     let other = not_source end old new (ran a.seen).text took.0 in
@@ -138,9 +140,9 @@ too_long end left mid left' written old new reader buf n a takes some one within
     let long : length (take n buf) ≡ n = length-take-le n buf within in
     let full : length a.seen ≡ limit = omega (arith, a.count_is) in
     let known : (all : List ℕ) → left ≡ Some all → HasOutcome all (ran a.seen).text (Some (reader.taken + 1, Size)) = λ all told.
-        let r = came left mid left' a.seen buf n all a.read takes told in
-        subst (λ (xs : List ℕ). HasOutcome xs (ran a.seen).text (Some (reader.taken + 1, Size))) (sym r.1)
-        (subst (λ (k : ℕ). HasOutcome (a.seen ++ r.0) (ran a.seen).text (Some (k + 1, Size))) (sym a.after.taken) (outcome-size a.seen r.0 a.after.reading full (omega (arith, r.2)) a.after.faultless)) in
+    let r = came left mid left' a.seen buf n all a.read takes told in
+    subst (λ (xs : List ℕ). HasOutcome xs (ran a.seen).text (Some (reader.taken + 1, Size))) (sym r.1)
+    (subst (λ (k : ℕ). HasOutcome (a.seen ++ r.0) (ran a.seen).text (Some (k + 1, Size))) (sym a.after.taken) (outcome-size a.seen r.0 a.after.reading full (omega (arith, r.2)) a.after.faultless)) in
     closed_as end left left' written old new a.seen a.lines (record {
       ends = λ all told. ends_on end old new (ran a.seen).text all (Some (reader.taken + 1, Size)) closes (known all told);
       read = λ all told. let r = read_more left mid left' a.seen buf n a.read takes all told in

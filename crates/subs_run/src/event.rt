@@ -12,7 +12,9 @@ use crate::taken::Taken;
 use hub::{CommitReply, ConnReply, Hub};
 use model::Tx;
 use scalar_val::{NoMemory, Steps};
-use script_text::{Line, ScriptReason, read_line, read_transaction, write_commit, write_open, write_recv};
+use script_text::{
+    Line, ScriptReason, read_line, read_transaction, write_commit, write_open, write_recv,
+};
 use std::alloc::Global;
 use std::sync::ledger::Ledger;
 

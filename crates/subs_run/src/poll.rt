@@ -25,12 +25,7 @@ pub(crate) fn poll(hub: &mut Hub, alloc: Global, out: &mut Vec<u8>) -> Result<()
 }
 
 /// So many takes and publications, but none once nobody is due.
-fn publish_due(
-    hub: &mut Hub,
-    alloc: Global,
-    due: u64,
-    out: &mut Vec<u8>,
-) -> Result<(), NoMemory>
+fn publish_due(hub: &mut Hub, alloc: Global, due: u64, out: &mut Vec<u8>) -> Result<(), NoMemory>
     requires stands { (h : List Event) × StandsFor hub.old h }
     requires few { hub.old.events + 2 * due < 2 ^ 62 }
     ensures reaches { OnOk result ((h : List Event) → StandsFor hub.old h → Reaches hub.old hub.new (transcript.publish_due hub.old.meta due (run hub.old.meta h) (run hub.old.meta h).due) out.old.items out.new.items) }
@@ -71,7 +66,13 @@ fn write_taken(job: &Job, out: &mut Vec<u8>) -> Result<(), NoMemory>
     ensures { OnOk result (Tells Take (Taken (job_of job.now)) [] out.old.items out.new.items) }
 {
     let members = job.members.len() as u64;
-    write_job(out, job.number, job.version, cohorts(job.members.as_slice()), members)
+    write_job(
+        out,
+        job.number,
+        job.version,
+        cohorts(job.members.as_slice()),
+        members,
+    )
 }
 
 /// How many cohorts members have: these have the places from 1 on.

@@ -5,7 +5,7 @@ ghost use Rattle.script_text.specs.Said.{reason_of};
 ghost use Rattle.subs_run.specs.Runs.{ran};
 ghost use Rattle.subs_run.specs.Turns.{TakesTo, ClosesAs};
 ghost use Rattle.subs_run.specs.Progress.{StandsAt};
-ghost use Rattle.subs_run.specs.Standing.{ Matches, IsAfter, FedAs, FedAll, HasRoom};
+ghost use Rattle.subs_run.specs.Standing.{Matches, IsAfter, FedAs, FedAll, HasRoom};
 
 use crate::answer::{RunEnd, ScriptReason};
 use crate::progress::{Progress, advance};
@@ -167,7 +167,7 @@ impl Reader {
         if write_fault(&mut self.out, line, reason).is_err() {
             return RunEnd::NoMemory;
         }
-        match write_all(sink, &self.out) {
+        match write_all(sink, self.out.as_slice()) {
             Wrote::Done => RunEnd::ScriptFault { line, reason },
             Wrote::Failed => RunEnd::SinkFault,
             Wrote::NoMemory => RunEnd::NoMemory,

@@ -14,4 +14,4 @@ returns-in-Ok-Committed g c h st =
     let answers = rw c.in-Ok-Committed.field-0-is at c.in-Ok-Committed.ensures.reply in
     line_ran c.went.result c.write_commit.result _ c.args.hub.now c.commit.new.self c.args.out.now.items c.write_commit.new.out.items c.went.ensures
     (λ ok. acted c.args.hub.now c.commit.new.self h (Commit tx) (Committed c.in-Ok-Committed.version) [] c.args.out.now.items c.write_commit.new.out.items answers st (subs-commit c.args.hub.now.meta (run c.args.hub.now.meta h) tx)
-        (when_ok c.write_commit.result ((t : Transaction) → Tells (Commit t) (Committed c.in-Ok-Committed.version) [] c.args.out.now.items c.write_commit.new.out.items) c.write_commit.ensures ok tx))
+    (when_ok c.write_commit.result ((t : Transaction) → Tells (Commit t) (Committed c.in-Ok-Committed.version) [] c.args.out.now.items c.write_commit.new.out.items) c.write_commit.ensures ok tx))

@@ -18,8 +18,8 @@ returns-in-Ok-Published-clause-took c h st =
     let queued = map queued_of c.in-Ok-Published.queued in
     let by_answers : Happened c.take.new.self c.publish.new.self h1 (Publish c.of-answers.result.number) (Published c.of-answers.result.version) queued = publishing.3 h1 (taking.0.happened h st).stands answers in
     let happened : Happened c.take.new.self c.publish.new.self h1 (Publish job.number) (Published job.version) queued =
-        subst (λ (v : ℕ). Happened c.take.new.self c.publish.new.self h1 (Publish job.number) (Published v) queued) c.of-answers.ensures.version
-        (subst (λ (n : ℕ). Happened c.take.new.self c.publish.new.self h1 (Publish n) (Published c.of-answers.result.version) queued) c.of-answers.ensures.number by_answers) in
+    subst (λ (v : ℕ). Happened c.take.new.self c.publish.new.self h1 (Publish job.number) (Published v) queued) c.of-answers.ensures.version
+    (subst (λ (n : ℕ). Happened c.take.new.self c.publish.new.self h1 (Publish n) (Published c.of-answers.result.version) queued) c.of-answers.ensures.number by_answers) in
     took_some c.args.hub.now c.take.new.self c.publish.new.self h (job_of job) job.number job.version queued c.args.out.now.items c.write_taken.new.out.items c.write_published.new.out.items taking.0 taking.2 taking.3 publishing.0 happened c.in_ok-write_taken.ensures c.in_ok-write_published-in-Ok-Published.ensures st
 
 pub returns-in-Ok-NotOpen-clause-took : goal.returns-in-Ok-NotOpen-clause-took

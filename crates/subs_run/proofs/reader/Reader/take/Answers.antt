@@ -15,11 +15,12 @@ fault-requires g c =
 pub returns-in-Faulty-clause-takes : goal.returns-in-Faulty-clause-takes
 returns-in-Faulty-clause-takes g c seen a within =
     let read : List ℕ = seen ++ c.args.piece.now in
-    let fed = c.in-Faulty.ensures.fed seen a in
-    (neither c.fault.result (g.K.Sink.written c.feed.new.sink) (g.K.Sink.written c.fault.new.sink) (c.feed.new.self.taken + 1) (reason_of c.in-Faulty.reason) c.fault.ensures.closes,
-    λ rest. ends_then c.fault.result (g.K.Sink.written c.args.sink.now) (g.K.Sink.written c.feed.new.sink) (g.K.Sink.written c.fault.new.sink) (ran seen).text (ran read).text (read ++ rest) (c.in-Faulty.ensures.all seen a)
-        (ends_on c.fault.result (g.K.Sink.written c.feed.new.sink) (g.K.Sink.written c.fault.new.sink) (ran read).text (read ++ rest) _ c.fault.ensures.closes
-        (outcome-fault read rest (c.feed.new.self.taken + 1) (reason_of c.in-Faulty.reason) (omega (arith, within, length-append seen c.args.piece.now)) fed.0)))
+    let fed = c.in-Faulty.ensures.fed seen a in (
+      neither c.fault.result (g.K.Sink.written c.feed.new.sink) (g.K.Sink.written c.fault.new.sink) (c.feed.new.self.taken + 1) (reason_of c.in-Faulty.reason) c.fault.ensures.closes,
+      λ rest. ends_then c.fault.result (g.K.Sink.written c.args.sink.now) (g.K.Sink.written c.feed.new.sink) (g.K.Sink.written c.fault.new.sink) (ran seen).text (ran read).text (read ++ rest) (c.in-Faulty.ensures.all seen a)
+          (ends_on c.fault.result (g.K.Sink.written c.feed.new.sink) (g.K.Sink.written c.fault.new.sink) (ran read).text (read ++ rest) _ c.fault.ensures.closes
+          (outcome-fault read rest (c.feed.new.self.taken + 1) (reason_of c.in-Faulty.reason) (omega (arith, within, length-append seen c.args.piece.now)) fed.0)),
+    )
 
 pub returns-in-SinkFailed-clause-takes : goal.returns-in-SinkFailed-clause-takes
 returns-in-SinkFailed-clause-takes g c seen a within =
