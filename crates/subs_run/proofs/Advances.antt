@@ -1,9 +1,9 @@
 -- What a line does to the progress of a script.
-use Rattle.std.proofs.Common.{◌≡◌, ◌∙◌, ◌≤◌, ◌<◌, ◌+◌, ◌*◌, arith, sym, ap, subst, refl, ℕ, Bool, true, false, if◌then◌else◌, Option, Some, None, List, [], ◌∷◌, ◌++◌, length, append-nil}
+use Rattle.std.proofs.Common.{◌≡◌, ◌∙◌, ◌≤◌, ◌<◌, ◌+◌, ◌*◌, arith, sym, ap, subst, refl, ℕ, Bool, true, if◌then◌else◌, Option, Some, None, List, [], ◌∷◌, ◌++◌, length, append-nil}
 use Rattle.std.specs.Prelude.{codes}
 use Rattle.model.specs.Values.{same_text}
 use Rattle.model.specs.Admission.{Meta}
-use Rattle.model.specs.State.{State, Event, opening}
+use Rattle.model.specs.State.{Event, opening}
 use Rattle.model.specs.Run.{run}
 use Rattle.model.specs.Forms.{read_metadata}
 use Rattle.model.specs.Script.{Reading, Heading, Running, Took, Went, Faulty, begin, act, read_line, take_line, limit}

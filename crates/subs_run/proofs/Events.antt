@@ -1,5 +1,5 @@
 -- What a call of the hub says of a line.
-use Rattle.std.proofs.Common.{◌≡◌, ◌≢◌, ◌∙◌, ◌≤◌, ◌<◌, ◌+◌, ◌*◌, arith, sym, ap, subst, refl, ℕ, Bool, true, false, if◌then◌else◌, Option, Some, None, Ok, Err, List, [], ◌∷◌, ◌++◌, length, map}
+use Rattle.std.proofs.Common.{◌≡◌, ◌∙◌, ◌≤◌, ◌+◌, arith, sym, ap, subst, refl, ℕ, Bool, if◌then◌else◌, Option, Some, None, Ok, Err, List, [], ◌∷◌, ◌++◌, length, map}
 use Rattle.std.specs.declared.result.Result.{Result}
 use Rattle.std.specs.Prelude.{OnOk}
 use Rattle.scalar_val.specs.declared.text.NoMemory.{NoMemory}
@@ -8,20 +8,19 @@ use Rattle.model.specs.Messages.{Message}
 use Rattle.model.specs.State as machine
 use Rattle.model.specs.State.{State, Event, Receive, Reply, Did, Step}
 use Rattle.model.specs.Run.{happens, run}
-use Rattle.model.specs.Built.{is_built}
-use Rattle.model.specs.Transcript.{transcript, goes, Reached}
-use Rattle.model.specs.Script.{Reading, Running, Took, Went, Faulty, Unbuilt, Act, act, went, receive_line}
+use Rattle.model.specs.Transcript.{transcript, goes}
+use Rattle.model.specs.Script.{Running, Took, Faulty, Unbuilt, Act, act, went, receive_line}
 use Rattle.model.specs.Shown.{queued_of}
 use Rattle.hub.specs.State.{Kept}
 use Rattle.hub.specs.Stands.{StandsFor, Happened, Does}
-use Rattle.hub.specs.Replies.{NotBuilt, ConnAnswers, ReceiveAnswers}
+use Rattle.hub.specs.Replies.{NotBuilt, ReceiveAnswers}
 use Rattle.hub.specs.declared.reply.ConnReply.TheVariants as conn
 use Rattle.hub.specs.declared.reply.Effect.{Effect}
 use Rattle.script_text.specs.Told.{Tells}
 use Rattle.script_text.specs.declared.transcript.ScriptReason.TheVariants as reason
 use Rattle.subs_run.specs.declared.taken.Taken.{Taken}
 use Rattle.subs_run.specs.declared.taken.Taken.TheVariants as taken
-use Rattle.subs_run.specs.Events.{RanOn, LineRan, IsWent}
+use Rattle.subs_run.specs.Events.{LineRan, IsWent}
 use Rattle.subs_run.proofs.Machine.{subs, subs-receive}
 
 -- a line whose transcript could be appended, or not

@@ -1,14 +1,14 @@
 -- What pieces do to a reader.
-use Rattle.std.proofs.Common.{◌≡◌, ◌≢◌, ◌∙◌, ◌≤◌, ◌<◌, ◌+◌, ◌-◌, arith, sym, ap, subst, refl, ℕ, Option, Some, List, [], ◌∷◌, ◌++◌, length, length-append, append_assoc, take, drop, get_or}
+use Rattle.std.proofs.Common.{◌≡◌, ◌≢◌, ◌∙◌, ◌<◌, ◌+◌, arith, sym, ap, subst, refl, ℕ, Option, List, [], ◌∷◌, ◌++◌, length, length-append, append_assoc, take, drop, get_or}
 use Rattle.std.proofs.lemmas.List.{take_more}
 use Rattle.std.proofs.lemmas.Grind.{common_steps}
-use Rattle.model.specs.Script.{Fault, Ran, Standing, limit}
+use Rattle.model.specs.Script.{Ran}
 use Rattle.subs_run.specs.declared.reader.Reader.{Reader}
 use Rattle.subs_run.specs.declared.reader.Fed.{Fed}
 use Rattle.subs_run.specs.declared.reader.Fed.TheVariants as fed
 use Rattle.script_text.specs.Said.{reason_of}
 use Rattle.subs_run.specs.Runs.{ran}
-use Rattle.subs_run.specs.Written.{WritesOn, WritesFrontOn}
+use Rattle.subs_run.specs.Written.{WritesOn}
 use Rattle.subs_run.specs.Standing.{IsAfter, HasRoom, FedAs, FedAll}
 use Rattle.subs_run.proofs.Rans.{ran-fault, ran-longer}
 use Rattle.subs_run.proofs.Written.{on_then, front_then, front_longer}

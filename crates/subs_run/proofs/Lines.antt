@@ -1,5 +1,5 @@
 -- Laws of lines.
-use Rattle.std.proofs.Common.{◌≡◌, ◌≢◌, ◌∙◌, ◌≤◌, ◌+◌, arith, sym, ap, subst, refl, ℕ, Bool, true, false, ◌==◌, List, [], ◌∷◌, ◌++◌, length, length-append, append-nil}
+use Rattle.std.proofs.Common.{◌≡◌, ◌≢◌, ◌∙◌, ◌≤◌, ◌+◌, arith, sym, ap, subst, refl, ℕ, Bool, true, false, ◌==◌, List, [], ◌∷◌, ◌++◌, length, append-nil}
 use Rattle.std.proofs.lemmas.Bool.Decides.{nat_tests}
 use Rattle.model.specs.Script.{Lines, onto_line, lines}
 

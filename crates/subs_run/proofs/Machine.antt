@@ -1,5 +1,5 @@
 -- How many subscriptions an event adds: one at most.
-use Rattle.std.proofs.Common.{◌≡◌, ◌∙◌, ◌≤◌, ◌+◌, arith, sym, ap, subst, refl, ℕ, Bool, true, false, if◌then◌else◌, Option, Some, None, List, [], ◌∷◌, ◌++◌, length, length-append, map, filter}
+use Rattle.std.proofs.Common.{◌≡◌, ◌∙◌, ◌≤◌, ◌+◌, arith, refl, ℕ, Bool, true, false, if◌then◌else◌, Option, Some, None, List, [], ◌∷◌, length, length-append, filter}
 use Rattle.std.specs.Prelude.{find, nat_lt, ◌&&◌, not}
 use Rattle.std.specs.List.{list_any}
 use Rattle.std.proofs.lemmas.List.{length-map}
@@ -8,10 +8,10 @@ use Rattle.model.specs.Rows.{Database, Transaction, Applied, Accepted, Refused, 
 use Rattle.model.specs.Messages.{Message, Init, Subscribe, Complete, Ping, Pong, Bad, Request, CloseReason, exists_reason}
 use Rattle.model.specs.Queries.{Live, Once, Stream, QueryKind, Result, result}
 use Rattle.model.specs.Admission.{Meta, Session, Identity, Allowed, Denied, identity, Admission, Admits, Refuses, Unread, admits}
-use Rattle.model.specs.State.{State, Event, Connect, Receive, Commit, Tick, Take, Publish, Connection, Phase, Fresh, Acknowledged, Closed, Subscription, Member, Job, Step, Effect, Did, with_reply}
-use Rattle.model.specs.Connections.{connection_at, connect, on_known, receive, receive_fresh, receive_acknowledged, initialised, subscribe, subscribed, close_connection, end_where, ended_if, is_of, is_live_id}
-use Rattle.model.specs.Batches.{take_from, job_at, is_due, is_busy, is_subscription, subscription_at, idle}
-use Rattle.model.specs.Publication.{and_then, at_subscription, is_new, remembers, moves_to, publish_live, publish_once, publish_stream, publish_kind, publish_member, publish_members, database_of, publish}
+use Rattle.model.specs.State.{State, Connect, Receive, Commit, Tick, Take, Publish, Connection, Phase, Fresh, Acknowledged, Closed, Subscription, Member, Job, Effect, Did, with_reply}
+use Rattle.model.specs.Connections.{connection_at, connect, on_known, receive, receive_fresh, receive_acknowledged, initialised, subscribe, subscribed, close_connection, ended_if, is_of, is_live_id}
+use Rattle.model.specs.Batches.{take_from, job_at, is_due, is_busy, is_subscription, subscription_at}
+use Rattle.model.specs.Publication.{at_subscription, is_new, remembers, moves_to, publish_live, publish_once, publish_stream, publish_kind, publish_member, publish_members, database_of, publish}
 use Rattle.model.specs.Run.{commit, database_now, happens}
 
 abbrev pub subs : State → ℕ

@@ -1,5 +1,5 @@
 -- The outcome of a script, by what was read of it.
-use Rattle.std.proofs.Common.{◌≡◌, ◌≢◌, ◌∙◌, ◌≤◌, ◌<◌, ◌+◌, ◌-◌, ◌⊎◌, inl, inr, arith, sym, ap, subst, refl, ℕ, Bool, true, false, Option, Some, None, List, [], ◌∷◌, ◌++◌, length, length-append, append_assoc, append-nil, take, drop}
+use Rattle.std.proofs.Common.{◌≡◌, ◌≢◌, ◌∙◌, ◌≤◌, ◌<◌, ◌+◌, ◌-◌, ◌⊎◌, inl, inr, arith, sym, ap, refl, ℕ, Bool, true, false, Option, Some, None, List, ◌++◌, length, length-append, append_assoc, append-nil, take}
 use Rattle.std.specs.Prelude.{nat_lt}
 use Rattle.std.proofs.Math.Seq.{take-append-add}
 use Rattle.std.proofs.lemmas.Bool.{lt-ltb, le-ltb}
@@ -10,7 +10,7 @@ use Rattle.subs_run.specs.declared.answer.RunEnd.TheVariants as run_end
 use Rattle.script_text.specs.Said.{reason_of}
 use Rattle.subs_run.specs.Runs.{ran, EndsAs, IsToldWhole}
 use Rattle.subs_run.specs.Turns.{ClosesAs, EndsOn}
-use Rattle.subs_run.specs.Written.{WritesAll, WritesFront, WritesOn, WritesFrontOn}
+use Rattle.subs_run.specs.Written.{WritesOn, WritesFrontOn}
 use Rattle.subs_run.proofs.Rans.{ran-fault, ran-longer}
 use Rattle.subs_run.proofs.Written.{on_all, on_front, on_then, front_then, front_longer}
 

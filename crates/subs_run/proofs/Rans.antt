@@ -1,5 +1,5 @@
 -- Laws of runs over lines.
-use Rattle.std.proofs.Common.{◌≡◌, ◌≢◌, ◌∙◌, ◌≤◌, ◌<◌, ◌+◌, arith, sym, ap, subst, refl, ℕ, Bool, true, false, Option, Some, List, [], ◌∷◌, ◌++◌, length, append-nil, append_assoc}
+use Rattle.std.proofs.Common.{◌≡◌, ◌≢◌, ◌∙◌, ◌+◌, arith, sym, ap, refl, ℕ, List, [], ◌∷◌, ◌++◌, length, append-nil, append_assoc}
 use Rattle.model.specs.Script.{Lines, lines, Reading, Heading, Took, Went, Faulty, take_line, Standing, At, Fault, Reason, Ran, ran_on, run_lines}
 use Rattle.subs_run.specs.Runs.{ran}
 use Rattle.subs_run.proofs.Lines.{lines-append, push_byte, push_end}

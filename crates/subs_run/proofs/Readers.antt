@@ -1,6 +1,6 @@
 -- What a byte does to a reader.
-use Rattle.std.proofs.Common.{◌≡◌, ◌≢◌, ◌∙◌, ◌≤◌, ◌<◌, ◌+◌, arith, sym, ap, subst, refl, ℕ, Option, Some, List, [], ◌∷◌, ◌++◌, length, length-append, append-nil}
-use Rattle.model.specs.Script.{Lines, lines, Reading, Took, Went, Faulty, take_line, limit, At, Fault, Reason, Ran, ran_on, run_lines}
+use Rattle.std.proofs.Common.{◌≡◌, ◌≢◌, ◌∙◌, ◌≤◌, ◌+◌, arith, sym, ap, subst, refl, ℕ, Option, List, [], ◌∷◌, ◌++◌, length, length-append, append-nil}
+use Rattle.model.specs.Script.{Lines, lines, Reading, Took, Went, Faulty, take_line, At, Fault, Reason, Ran, ran_on, run_lines}
 use Rattle.script_text.specs.declared.transcript.ScriptReason.{ScriptReason}
 use Rattle.subs_run.specs.declared.reader.Reader.{Reader}
 use Rattle.subs_run.specs.declared.taken.Taken.TheVariants as taken

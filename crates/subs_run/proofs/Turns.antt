@@ -1,9 +1,9 @@
 -- A run, turn by turn.
-use Rattle.std.proofs.Common.{◌≡◌, ◌≢◌, ◌∙◌, ◌≤◌, ◌<◌, ◌+◌, ◌-◌, ◌⊎◌, arith, sym, ap, subst, refl, ℕ, Option, Some, None, List, [], ◌∷◌, ◌++◌, length, length-append, append_assoc, append-nil, take, drop}
+use Rattle.std.proofs.Common.{◌≡◌, ◌≢◌, ◌∙◌, ◌≤◌, ◌<◌, ◌+◌, arith, sym, ap, subst, refl, ℕ, Option, Some, List, [], ◌++◌, length, length-append, append_assoc, append-nil, take, drop}
 use Rattle.std.proofs.lemmas.List.{take-append-drop, length-take-le}
 use Rattle.outside.specs.Ends.{Takes}
 use Rattle.outside.specs.declared.source.Got.TheVariants as got
-use Rattle.model.specs.Script.{Reading, Reason, At, limit, ended, lines, output, outcome, Size}
+use Rattle.model.specs.Script.{Reason, limit, ended, lines, outcome, Size}
 use Rattle.subs_run.specs.declared.answer.RunEnd.{RunEnd}
 use Rattle.subs_run.specs.declared.answer.RunEnd.TheVariants as run_end
 use Rattle.subs_run.specs.declared.reader.Reader.{Reader}

@@ -1,5 +1,5 @@
 -- What was written, call by call.
-use Rattle.std.proofs.Common.{◌≡◌, ◌≢◌, ◌∙◌, sym, ap, subst, refl, ℕ, ◌+◌, Option, Some, List, [], ◌++◌, length, take, drop, arith, append_assoc, append-nil, take-add, min}
+use Rattle.std.proofs.Common.{◌≡◌, ◌≢◌, ◌∙◌, sym, ap, subst, ℕ, ◌+◌, Option, Some, List, [], ◌++◌, length, take, drop, arith, append_assoc, append-nil, take-add, min}
 use Rattle.std.proofs.Math.Seq.{take-append-add}
 use Rattle.std.proofs.lemmas.Grind.{common_steps}
 use Rattle.outside.specs.Ends.{Adds}

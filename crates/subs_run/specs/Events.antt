@@ -1,5 +1,5 @@
 -- What a line does to a hub. This project's own.
-use Rattle.std.specs.Prelude.{◌≡◌, ℕ, ◌+◌, ◌*◌, ◌<◌, ◌≤◌, Bool, true, false, Ok, Err, List, [], ◌++◌, length}
+use Rattle.std.specs.Prelude.{◌≡◌, ℕ, ◌+◌, ◌*◌, ◌<◌, ◌≤◌, Bool, true, false, Ok, List, [], ◌++◌, length}
 use Rattle.std.specs.declared.result.Result.{Result}
 use Rattle.scalar_val.specs.declared.text.NoMemory.{NoMemory}
 use Rattle.model.specs.State.{Event}

@@ -1,5 +1,5 @@
 -- How far a script is, and what a line does to it. This project's own.
-use Rattle.std.specs.Prelude.{◌≡◌, ℕ, ◌+◌, ◌*◌, ◌<◌, ◌≤◌, Option, Some, None, List, [], ◌++◌, length}
+use Rattle.std.specs.Prelude.{◌≡◌, ℕ, ◌*◌, ◌<◌, ◌≤◌, Option, Some, None, List, [], ◌++◌, length}
 use Rattle.model.specs.Admission.{Meta}
 use Rattle.model.specs.State.{Event}
 use Rattle.model.specs.Run.{run}

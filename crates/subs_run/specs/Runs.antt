@@ -1,6 +1,6 @@
 -- What a run of a script has read and written of an input. This project's own.
 use Rattle.std.specs.Prelude.{◌≡◌, ℕ, ◌<◌, ◌≤◌, ◌+◌, Option, Some, None, List, [], ◌++◌, length, take}
-use Rattle.model.specs.Script.{Reading, Heading, Standing, At, Fault, Reason, Ran, lines, run_lines, limit, outcome, output}
+use Rattle.model.specs.Script.{Reading, Heading, At, Reason, Ran, lines, run_lines, limit, outcome}
 use Rattle.script_text.specs.Said.{reason_of}
 use Rattle.outside.specs.declared.source.Got.{Got}
 use Rattle.outside.specs.declared.source.Got.TheVariants as got

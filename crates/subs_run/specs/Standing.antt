@@ -1,5 +1,5 @@
 -- Where a reader stands between two bytes. This project's own.
-use Rattle.std.specs.Prelude.{◌≡◌, ℕ, ◌+◌, ◌≤◌, Option, List, [], ◌++◌, length}
+use Rattle.std.specs.Prelude.{◌≡◌, ℕ, ◌+◌, ◌≤◌, Option, List, [], length}
 use Rattle.model.specs.Script.{Reading, Took, Went, Faulty, At, Fault, limit, lines}
 use Rattle.subs_run.specs.declared.reader.Reader.{Reader}
 use Rattle.subs_run.specs.declared.taken.Taken.{Taken}

@@ -1,5 +1,5 @@
 -- The words of a command line, and what is written where they are no command. This project's own.
-use Rattle.std.specs.Prelude.{Bool, true, false, ℕ, if◌then◌else◌, List, [], ◌∷◌, codes}
+use Rattle.std.specs.Prelude.{Bool, false, ℕ, if◌then◌else◌, List, [], ◌∷◌, codes}
 use Rattle.model.specs.Values.{same_text}
 use Rattle.model.specs.Script.{output}
 

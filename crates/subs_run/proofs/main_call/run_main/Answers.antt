@@ -1,4 +1,4 @@
-use Rattle.std.proofs.Common.{◌≡◌, ◌∙◌, ℕ, Bool, true, List, Some, inl, inr, refl, sym, subst, map, if◌then◌else◌}
+use Rattle.std.proofs.Common.{◌≡◌, ◌∙◌, Bool, true, inl, inr, refl, sym, subst, map, if◌then◌else◌}
 use Rattle.std.specs.Prelude.{string_bytes}
 use Rattle.model.specs.Script.{outcome, output}
 use Rattle.script_text.specs.Said.{reason_of}

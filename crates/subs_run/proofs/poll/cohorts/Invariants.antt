@@ -1,4 +1,4 @@
-use Rattle.std.proofs.Common.{◌≡◌, ℕ, max, map, take, drop}
+use Rattle.std.proofs.Common.{◌≡◌, max, map, take}
 use Rattle.std.specs.List.{fold}
 use Rattle.model.specs.State as machine
 use Rattle.hub.specs.Jobs.{member_of}

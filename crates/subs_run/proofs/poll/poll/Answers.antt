@@ -1,4 +1,4 @@
-use Rattle.std.proofs.Common.{◌+◌, arith}
+use Rattle.std.proofs.Common.{arith}
 use Rattle.std.proofs.lemmas.Result.{IfOk-weaker}
 use Rattle.subs_run.proofs.Polls.{due_few, polled}
 use Rattle.subs_run.proofs.poll.poll.Goals as goal

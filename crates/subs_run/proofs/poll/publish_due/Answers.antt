@@ -1,5 +1,4 @@
-use Rattle.std.proofs.Common.{◌≡◌, ◌+◌, ◌-◌, ◌*◌, suc, sym, subst, arith, List, Bool}
-use Rattle.model.specs.State.{Event}
+use Rattle.std.proofs.Common.{◌+◌, ◌-◌, subst, arith, Bool}
 use Rattle.model.specs.Run.{run}
 use Rattle.model.specs.Transcript as transcript
 use Rattle.subs_run.specs.Events.{TookOne}

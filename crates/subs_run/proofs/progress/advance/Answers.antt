@@ -1,8 +1,8 @@
-use Rattle.std.proofs.Common.{◌≡◌, ◌∙◌, ◌+◌, ℕ, List, Some, None, true, sym, subst, Option}
+use Rattle.std.proofs.Common.{◌≡◌, ◌∙◌, ◌+◌, ℕ, List, Some, None, true, sym, subst}
 use Rattle.std.specs.Prelude.{codes}
 use Rattle.model.specs.Values.{same_text}
 use Rattle.model.specs.Forms.{read_metadata}
-use Rattle.model.specs.Script.{Reading, Heading}
+use Rattle.model.specs.Script.{Heading}
 use Rattle.subs_run.specs.declared.progress.Progress.{Progress}
 use Rattle.subs_run.specs.declared.progress.Progress.TheVariants as progress
 use Rattle.subs_run.specs.Progress.{StandsAt, Begins}

@@ -1,4 +1,4 @@
-use Rattle.std.proofs.Common.{◌≡◌, ◌∙◌, ◌≤◌, sym, ap, subst, refl, arith, ℕ, List, length}
+use Rattle.std.proofs.Common.{arith}
 use Rattle.model.specs.Script.{limit}
 use Rattle.subs_run.proofs.Readers.{taken_within}
 use Rattle.subs_run.proofs.Turns.{too_long, finished}

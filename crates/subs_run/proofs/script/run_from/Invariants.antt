@@ -1,4 +1,4 @@
-use Rattle.std.proofs.Common.{◌≡◌, ◌≤◌, ◌<◌, ◌-◌, length}
+use Rattle.std.proofs.Common.{◌≤◌, ◌<◌, ◌-◌, length}
 use Rattle.subs_run.specs.Turns.{IsAt}
 use Rattle.subs_run.proofs.script.run_from.Given as goal
 

@@ -1,7 +1,6 @@
-use Rattle.std.proofs.Common.{◌≡◌, ◌∙◌, ◌≤◌, ◌+◌, ◌-◌, rules, sym, ap, subst, refl, arith, ℕ, List, length, take, min}
+use Rattle.std.proofs.Common.{◌≤◌, ◌+◌, ◌-◌, rules, arith, ℕ, length}
 use Rattle.std.proofs.lemmas.List.{length-take-le}
 use Rattle.model.specs.Script.{limit}
-use Rattle.subs_run.specs.Turns.{TakesTo}
 use Rattle.subs_run.proofs.Readers.{taken_within}
 use Rattle.subs_run.proofs.Turns.{turned, finished}
 use Rattle.subs_run.proofs.script.turn.Goals as goal

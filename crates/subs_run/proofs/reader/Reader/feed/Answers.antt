@@ -1,4 +1,4 @@
-use Rattle.std.proofs.Common.{◌≡◌, ◌∙◌, ◌+◌, ◌-◌, sym, ap, subst, refl, arith, ℕ, List, [], ◌∷◌, ◌++◌, get_or, take, drop, length}
+use Rattle.std.proofs.Common.{◌+◌, ◌-◌, sym, subst, arith, ℕ, List, [], ◌∷◌, ◌++◌, get_or, take, drop, length}
 use Rattle.subs_run.specs.Runs.{ran}
 use Rattle.subs_run.specs.Written.{WritesOn}
 use Rattle.subs_run.specs.Standing.{IsAfter, HasRoom, FedAs, FedAll}

@@ -1,4 +1,4 @@
-use Rattle.std.proofs.Common.{◌≡◌, ◌≤◌, ◌+◌, ◌-◌, ◌++◌, List, ℕ, take, length}
+use Rattle.std.proofs.Common.{◌≤◌, ◌-◌, ◌++◌, List, ℕ, take, length}
 use Rattle.subs_run.specs.Runs.{ran}
 use Rattle.subs_run.specs.Written.{WritesOn}
 use Rattle.subs_run.specs.Standing.{IsAfter, HasRoom}

@@ -1,9 +1,4 @@
-use Rattle.std.proofs.Common.{◌≡◌, ◌∙◌, ◌++◌, ◌∷◌, [], ℕ, List, subst, sym, ap, refl, arith, rules, append-nil}
-use Rattle.script_text.specs.Said.{reason_of}
-use Rattle.subs_run.specs.Runs.{ran}
-use Rattle.subs_run.specs.Standing.{IsAfter, FedAs, FedAll}
-use Rattle.subs_run.specs.declared.reader.Fed.TheVariants as fed
-use Rattle.subs_run.specs.Written.{WritesOn, WritesFrontOn}
+use Rattle.std.proofs.Common.{◌≡◌, ◌∷◌, [], ap, refl, arith, rules}
 use Rattle.model.specs.Script.{Ran}
 use Rattle.subs_run.proofs.Readers.{byte_after, byte_text, end_after, end_text, end_fault, fault_within, taken_within, front_so_far}
 use Rattle.subs_run.proofs.Written.{on_same, on_all, on_front, front_all, failed_not_done, no_memory_not_done}

@@ -1,8 +1,6 @@
-use Rattle.std.proofs.Common.{◌≡◌, ◌∙◌, ◌+◌, sym, ap, subst, refl, arith, ℕ, List, [], ◌∷◌, ◌++◌, length, length-append}
-use Rattle.model.specs.Script.{limit}
+use Rattle.std.proofs.Common.{◌+◌, arith, ℕ, List, ◌++◌, length-append}
 use Rattle.script_text.specs.Said.{reason_of}
 use Rattle.subs_run.specs.Runs.{ran}
-use Rattle.subs_run.specs.Turns.{EndsOn}
 use Rattle.subs_run.proofs.Outcomes.{outcome-fault, ends_on, ends_then, front_of_output}
 use Rattle.subs_run.proofs.Turns.{neither}
 use Rattle.subs_run.proofs.reader.Reader.take.Goals as goal
