@@ -8,4 +8,4 @@ mod run;
 
 pub use chars::unescaped;
 pub use request_model::{Token, TokenKind};
-pub use run::{LexFault, TokenRun, tokens};
+pub use run::{LexFault, TokenRun, spans, tokens};

@@ -1,1 +1,2 @@
+pub mod FaultRules
 mod Worked

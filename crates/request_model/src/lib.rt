@@ -4,6 +4,7 @@
 
 mod document;
 mod flat;
+mod laws;
 mod token;
 
 pub use document::{
@@ -11,4 +12,5 @@ pub use document::{
     GValueList, OpWord, Selection, SelectionList, TypeRef, VarDef, VarDefList,
 };
 pub use flat::{Flat, FlatField, FlatFieldList, StrList, Word};
+pub use laws::faults;
 pub use token::{Token, TokenKind};

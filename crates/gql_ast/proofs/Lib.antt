@@ -1,0 +1,10 @@
+pub mod Steps
+pub mod Loops
+pub mod OneLexeme
+pub mod ValueRules
+pub mod VariableRules
+pub mod SelectionRules
+pub mod DefinitionRules
+pub mod RunRules
+pub mod ParseRules
+pub mod CutRules
