@@ -1,6 +1,6 @@
 -- Who a client is, by its headers (Hasura's documentation, "Session variables"), and whether a subscribe is admitted.
 -- The rules of secrets, of the unauthorized role and of refusals are this project's own.
-use Rattle.std.specs.Prelude.{ℕ, ◌+◌, ◌-◌, ◌*◌, Bool, true, false, ◌&&◌, not, ◌==◌, if◌then◌else◌, Option, Some, None, List, [], ◌∷◌, ◌++◌, length, map, find, filter, take, drop, unwrap_or, slice_get, pos, codes}
+use Rattle.std.specs.Prelude.{ℕ, ◌+◌, ◌-◌, ◌*◌, Bool, true, false, ◌&&◌, not, ◌==◌, nat_le, nat_lt, if◌then◌else◌, Option, Some, None, List, [], ◌∷◌, ◌++◌, length, map, find, filter, take, drop, unwrap_or, slice_get, pos, codes}
 use Rattle.std.specs.List.{list_all, list_any, fold, starts_with}
 use Rattle.std.specs.Char.{to_ascii_lowercase}
 use Rattle.std.specs.Ordering.{nat_cmp, match_ordering}
@@ -117,8 +117,15 @@ all_among names known = list_all (λ name. list_any (same_text name) known) name
 abbrev pub number_of : List ℕ → ℕ
 number_of = fold (λ n b. n * 10 + (b - 48)) 0
 
+-- 1 to 19 digits that name an integer in 32 bits
+abbrev pub is_digit : ℕ → Bool
+is_digit b = nat_le 48 b && nat_le b 57
+
+abbrev pub is_small : List ℕ → Bool
+is_small text = nat_lt 0 (length text) && nat_le (length text) 19 && list_all is_digit text && nat_le (number_of text) 2147483647
+
 abbrev pub session_int : Option (List ℕ) → List SessionValue → List ℕ → Option (List SessionValue)
-session_int (Some text) others name = Some (record { name = name; value = val.Int (pos (number_of text)) } ∷ others)
+session_int (Some text) others name = if is_small text then Some (record { name = name; value = val.Int (pos (number_of text)) } ∷ others) else None
 session_int None others name = None
 
 -- the values of the session variables that a role's filter names; so far these are integers of 0 or more
@@ -145,5 +152,10 @@ admits_selection tables session (Some (Columns name columns)) =
     let table = slice_at tables (table_place name tables) in admits_columns session (Columns name columns) columns table (visible_in session.role table)
 admits_selection tables session None = Unread
 
+-- the operation has no name, so none is found where one is asked for
+abbrev pub if_unnamed : Option (List ℕ) → Option Selection → Option Selection
+if_unnamed None selection = selection
+if_unnamed (Some name) selection = None
+
 abbrev pub admits : Meta → Session → Request → Admission
-admits meta session request = admits_selection meta.tables session (read_selection request.query)
+admits meta session request = admits_selection meta.tables session (if_unnamed request.operation (read_selection request.query))
