@@ -139,6 +139,7 @@ slice_at xs None = None
 abbrev pub result_by : List Table → Query → Val → Database → Selection → Result
 result_by tables q cursor db (Columns table columns) = list_result q table columns (slice_at tables (table_place table tables)) (slice_at db (table_place table tables))
 
--- what one query gives, alone, on one database; a stream's rows are those beyond the cursor
+-- What one query gives, alone, on one database. No selection that is read so far is a stream's, so the cursor is of no
+-- use yet.
 abbrev pub result : List Table → Query → Val → Database → Result
 result tables q cursor db = result_by tables q cursor db q.selection
