@@ -14,4 +14,5 @@ pub mod Transcript
 pub mod Script
 pub mod Shown
 pub mod Worked
+pub mod WorkedEvents
 pub mod WorkedScript
