@@ -1,13 +1,13 @@
 -- Transactions of inserts into one table.
-use Rattle.std.proofs.Common.{◌≡◌, ◌∙◌, sym, ap, refl, ℕ, ◌+◌, ◌≤◌, false, Option, Some, None, option_map, List, [], ◌∷◌, ◌++◌, length, map, Ordering, arith, length-append}
+use Rattle.std.proofs.Common.{◌≡◌, ◌∙◌, sym, ap, refl, ℕ, ◌+◌, ◌≤◌, Bool, true, false, Option, Some, None, option_map, List, [], ◌∷◌, ◌++◌, length, map, Ordering, arith, length-append}
 use Rattle.std.proofs.lemmas.List.{take-append-le, take_all}
-use Rattle.std.specs.Prelude.{take}
+use Rattle.std.specs.Prelude.{take, nat_lt, if◌then◌else◌}
 use Rattle.std.specs.Option.{option_and_then}
 use Rattle.std.specs.List.{AllByRecursion}
 use Rattle.std.specs.Ordering.{match_ordering}
 use Rattle.std.specs.declared.cmp.Ordering.TheVariants.{Less, Equal, Greater}
 use Rattle.scalar_val.specs.ValOrder.{val_cmp}
-use Rattle.model.specs.Rows.{Row, Table, Database, Transaction, Changed, Became, Refuses, Applied, Accepted, Refused, KeyTaken, cell, key_cmp, also, insert_row, go_on, apply, apply_from, accepted_or, database_after, snapshot, no_rows}
+use Rattle.model.specs.Rows.{Row, Table, Database, Transaction, Changed, Became, Refuses, Applied, Accepted, Refused, KeyTaken, cell, key_cmp, also, insert_row, insert_into, with_room, most_rows, go_on, apply, apply_from, accepted_or, database_after, snapshot, no_rows}
 use Rattle.model.specs.State.{State, Event, Job, Commit, Committed, Step}
 use Rattle.model.specs.Run.{happens, run, database_now, commit}
 use Rattle.model.specs.Built.{is_accepted}
@@ -17,7 +17,7 @@ use Rattle.model.specs.declared.change.Change.TheVariants.{Insert}
 use Rattle.model.specs.declared.meta.Meta as plain
 use Rattle.hub.specs.State.{Kept, state_of}
 use Rattle.hub.specs.Stands.{IsOpen, StandsFor, Happened, Does}
-use Rattle.hub.specs.Inserts.{inserted, inserted_all}
+use Rattle.hub.specs.Inserts.{inserted, inserted_into, inserted_all}
 use Rattle.hub.specs.Jobs.{Taking, takings}
 use Rattle.hub.proofs.Histories.{run-push, taken-longer}
 use Rattle.hub.proofs.Stands.{no_taking}
@@ -45,6 +45,16 @@ insert_became table key row (r ∷ rs) e =
     ∙ insert_step (val_cmp (cell row key) (cell r key)) (row ∷ r ∷ rs) (insert_row table row rs) r
     ∙ ap (λ (later : Option (List Row)). match_ordering (val_cmp (cell row key) (cell r key)) (Some (row ∷ r ∷ rs)) None (option_map (λ after. r ∷ after) later)) (insert_became table key row rs e)
 
+room_became : (room : Bool) (r : Changed (List Row)) → became (with_room room r) ≡ (if room then became r else None)
+room_became true r = refl
+room_became false (Became after) = refl
+room_became false (Refuses refusal) = refl
+
+into_became : (table : Table) (key : ℕ) (row : Row) (rs : List Row) → table.key ≡ key ∷ [] → became (insert_into table row rs) ≡ inserted_into key row rs
+into_became table key row rs e =
+    room_became (nat_lt (length rs) most_rows) (insert_row table row rs)
+    ∙ ap (λ (r : Option (List Row)). if nat_lt (length rs) most_rows then r else None) (insert_became table key row rs e)
+
 abbrev accepted : Applied → Option Database
 accepted (Accepted after) = Some after
 accepted (Refused change refusal) = None
@@ -56,8 +66,8 @@ apply_step table n rs cs key (Refuses refusal) more = refl
 apply_accepted : (table : Table) (key : ℕ) (n : ℕ) (cs : List Change) (rs : List Row) → table.key ≡ key ∷ [] → accepted (apply_from (table ∷ []) n (rs ∷ []) (map change_of cs)) ≡ option_map (λ rs. rs ∷ []) (inserted_all key cs rs)
 apply_accepted table key n [] rs e = refl
 apply_accepted table key n (Insert row ∷ cs) rs e =
-    apply_step table n rs cs key (insert_row table row rs) (λ after. apply_accepted table key (n + 1) cs after e)
-    ∙ ap (λ (r : Option (List Row)). option_map (λ (rs : List Row). rs ∷ []) (option_and_then (inserted_all key cs) r)) (insert_became table key row rs e)
+    apply_step table n rs cs key (insert_into table row rs) (λ after. apply_accepted table key (n + 1) cs after e)
+    ∙ ap (λ (r : Option (List Row)). option_map (λ (rs : List Row). rs ∷ []) (option_and_then (inserted_all key cs) r)) (into_became table key row rs e)
 
 accepted_some : (r : Applied) (after : Database) → accepted r ≡ Some after → r ≡ Accepted after
 accepted_some (Accepted db) after h = cc

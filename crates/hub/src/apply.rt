@@ -2,7 +2,7 @@ ghost use Rattle.std.specs.Prelude.{◌≡◌, [], ◌∷◌, map, IfOk};
 ghost use Rattle.scalar_val.specs.ValOrder.{val_cmp};
 ghost use Rattle.model.specs.Rows.{cell};
 ghost use Rattle.model.specs.Shown.{transaction_of};
-ghost use Rattle.hub.specs.Inserts.{inserted, inserted_all};
+ghost use Rattle.hub.specs.Inserts.{inserted, inserted_into, inserted_all};
 
 use crate::rows::{Row, RowList};
 use model::Change;
@@ -10,6 +10,9 @@ use scalar_val::{List, NoMemory, Steps, Val, cmp, copy_val};
 use std::alloc::Global;
 use std::cmp::Ordering;
 use std::sync::ledger::Ledger;
+
+/// The most rows of a table.
+const MOST_ROWS: usize = 1_048_576;
 
 /// A row's value in a column, or null past its end.
 pub fn cell<'a>(row: &'a Row, column: usize, null: &'a Val) -> &'a Val
@@ -79,6 +82,16 @@ fn insert_row(key: usize, mut rows: RowList, row: Row) -> Result<Option<RowList>
     }
 }
 
+/// Inserts a row. `None` where the key is taken or the table has as many rows as it may have.
+fn insert(key: usize, rows: RowList, row: Row) -> Result<Option<RowList>, NoMemory>
+    ensures { IfOk result (λ after. after ≡ inserted_into key row rows) }
+{
+    if rows.len() >= MOST_ROWS {
+        return Ok(None);
+    }
+    insert_row(key, rows, row)
+}
+
 /// The rows after all changes of a transaction. `None` where one is refused.
 pub fn apply<L: Ledger>(
     alloc: Global,
@@ -93,7 +106,7 @@ pub fn apply<L: Ledger>(
     for change in tx {
         let Change::Insert { row } = change;
         let row = Row::of(alloc, copy_values(alloc, row.as_slice())?)?;
-        match insert_row(key, after, row)? {
+        match insert(key, after, row)? {
             Some(more) => after = more,
             None => return Ok(None),
         }

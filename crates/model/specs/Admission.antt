@@ -103,12 +103,12 @@ abbrev pub is_admin : List ℕ → Bool
 is_admin = same_text (codes "admin")
 
 -- the columns of a table that a role sees, where it sees the table
-abbrev pub visible_by : List (List ℕ) → Option Permission → Option (List (List ℕ))
-visible_by columns (Some p) = Some p.columns
-visible_by columns None = None
+abbrev pub columns_of : Option Permission → Option (List (List ℕ))
+columns_of (Some p) = Some p.columns
+columns_of None = None
 
 abbrev pub visible : Table → List ℕ → Option (List (List ℕ))
-visible table role = if is_admin role then Some table.columns else visible_by table.columns (find (λ p. same_text role p.role) table.permissions)
+visible table role = if is_admin role then Some table.columns else columns_of (find (λ p. same_text role p.role) table.permissions)
 
 abbrev pub all_among : List (List ℕ) → List (List ℕ) → Bool
 all_among names known = list_all (λ name. list_any (same_text name) known) names

@@ -1,5 +1,5 @@
 -- Tables, rows, transactions and snapshots. This project's own.
-use Rattle.std.specs.Prelude.{ℕ, ◌+◌, Option, Some, None, List, [], ◌∷◌, take, map, slice_get, slice_set, unwrap_or}
+use Rattle.std.specs.Prelude.{ℕ, ◌+◌, Bool, true, false, nat_lt, length, Option, Some, None, List, [], ◌∷◌, take, map, slice_get, slice_set, unwrap_or}
 use Rattle.std.specs.Ordering.{match_ordering}
 use Rattle.std.specs.declared.cmp.Ordering.{Ordering}
 use Rattle.std.specs.declared.cmp.Ordering.TheVariants.{Less, Equal, Greater}
@@ -49,6 +49,7 @@ pub data Refusal : Type 0 where
   NoTable : Refusal
   NoRow : Refusal
   KeyTaken : Refusal
+  TableFull : Refusal
 
 -- what becomes of a table's rows, or of a database, by a change
 pub data Changed (A : Type 0) : Type 0 where
@@ -77,6 +78,19 @@ insert_row table row [] = Became (row ∷ [])
 insert_row table row (r ∷ rs) =
     match_ordering (key_cmp (key_of table row) (key_of table r)) (Became (row ∷ r ∷ rs)) (Refuses KeyTaken) (also (λ after. r ∷ after) (insert_row table row rs))
 
+-- the most rows of a table
+abbrev pub most_rows : ℕ
+most_rows = 1048576
+
+abbrev pub with_room : Bool → Changed (List Row) → Changed (List Row)
+with_room true changed = changed
+with_room false (Became after) = Refuses TableFull
+with_room false (Refuses refusal) = Refuses refusal
+
+-- the rows with one more, where its key is free and the table has room
+abbrev pub insert_into : Table → Row → List Row → Changed (List Row)
+insert_into table row rows = with_room (nat_lt (length rows) most_rows) (insert_row table row rows)
+
 abbrev pub set_cells : List Cell → Row → Row
 set_cells [] row = row
 set_cells (c ∷ cs) row = set_cells cs (slice_set row c.column c.value)
@@ -98,7 +112,7 @@ change_table tables number f db = change_at f number db (slice_get tables number
 
 -- the database after one change, or why it is refused
 abbrev pub change : List Table → Database → Change → Changed Database
-change tables db (Insert table row) = change_table tables table (λ t. insert_row t row) db
+change tables db (Insert table row) = change_table tables table (λ t. insert_into t row) db
 change tables db (Update table key cells) = change_table tables table (λ t. update_row t key cells) db
 
 -- what becomes of a database by a transaction; a refused change is told by its number, from 1

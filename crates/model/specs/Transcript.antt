@@ -2,7 +2,7 @@
 use Rattle.std.specs.Prelude.{ℕ, zero, suc, max, List, [], ◌∷◌, ◌++◌, length, codes, decimal}
 use Rattle.std.specs.List.{flat_map, fold}
 use Rattle.json.specs.Print.{quoted}
-use Rattle.model.specs.Rows.{Refusal, NoTable, NoRow, KeyTaken}
+use Rattle.model.specs.Rows.{Refusal, NoTable, NoRow, KeyTaken, TableFull}
 use Rattle.model.specs.Messages.{CloseReason, code, reason}
 use Rattle.model.specs.Admission.{Meta}
 use Rattle.model.specs.State.{State, Event, Connect, Receive, Binary, Timeout, Gone, Commit, Tick, Take, Publish, Abandon, Drain, Report, Skip, Reply, ConnectionUnknown, ConnectionKnown, Committed, Declined, Ticked, Taken, Published, Abandoned, Sent, Done, Reported, Member, Job, Counts, Queued, Close, Step}
@@ -16,6 +16,7 @@ abbrev pub refusal_name : Refusal → List ℕ
 refusal_name NoTable = codes "NoTable"
 refusal_name NoRow = codes "NoRow"
 refusal_name KeyTaken = codes "KeyTaken"
+refusal_name TableFull = codes "TableFull"
 
 -- the cohorts of a job have the places from 1 on
 abbrev pub cohorts : List Member → ℕ

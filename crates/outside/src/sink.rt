@@ -32,5 +32,5 @@ pub trait Sink {
         ensures count { IsPutCounted result (length bytes.now) }
         ensures bytes { Adds (written self.old) (written self.new) result bytes.now }
         ensures cause { PutHasCause (faults self.old) (faults self.new) result }
-        ensures steady { never_fails self.old → never_fails self.new × (result ≢ Put.Failed) };
+        ensures steady { never_fails self.old → never_fails self.new × (result ≢ Put.Failed) × (faults self.new ≡ faults self.old) };
 }

@@ -33,5 +33,5 @@ pub trait Source {
         ensures count { IsCounted result (length buf.new) }
         ensures bytes { Takes (left self.old) (left self.new) result buf.new }
         ensures cause { HasCause (faults self.old) (faults self.new) result }
-        ensures steady { never_fails self.old → never_fails self.new × (result ≢ Got.Failed) };
+        ensures steady { never_fails self.old → never_fails self.new × (result ≢ Got.Failed) × (faults self.new ≡ faults self.old) };
 }
