@@ -1,0 +1,7 @@
+//! Tables of rows that are shared and changed: a snapshot is a database that fits its catalog.
+#![tactic(auto)]
+
+mod row;
+mod sharing;
+
+pub use row::{Row, copy_row};
