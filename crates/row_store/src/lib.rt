@@ -1,6 +1,8 @@
 //! Tables of rows that are shared and changed: a snapshot is a database that fits its catalog.
 #![tactic(auto)]
 
+mod copying;
+mod finding;
 mod row;
 mod sharing;
 
