@@ -5,5 +5,8 @@ mod copying;
 mod finding;
 mod row;
 mod sharing;
+mod stored;
+mod tables;
 
 pub use row::{Row, copy_row};
+pub use stored::Stored;

@@ -1,5 +1,7 @@
-ghost use Rattle.std.specs.Prelude.{◌≡◌, ◌+◌, ◌≤◌, IfOk, take, length};
+ghost use Rattle.std.specs.Prelude.{◌≡◌, ◌+◌, ◌≤◌, IfOk, take, length, slice_set};
+ghost use Rattle.data_model.specs.Rows.{set_cells};
 
+use data_model::SetCell;
 use scalar_val::{List, NoMemory, Steps, Val, copy_val};
 use std::alloc::Global;
 use std::marker::Model;
@@ -43,6 +45,28 @@ pub fn copy_row<L: Ledger>(alloc: Global, row: &Row, steps: &mut Steps<L>) -> Re
 {
     steps.tick();
     Ok(Row::of(copy_cells(alloc, row.cells())?))
+}
+
+/// The row with new values, copied. It counts one step.
+pub(crate) fn with_cells<L: Ledger>(alloc: Global, row: &Row, set: &[SetCell], steps: &mut Steps<L>) -> Result<Row, NoMemory>
+    ensures value { IfOk result (λ made. made ≡ set_cells set.now row.now) }
+    ensures step { steps.new ≡ steps.old + 1 }
+{
+    let Row { mut cells } = copy_row(alloc, row, steps)?;
+    for cell in set {
+        let value = copy_val(alloc, &cell.value)?;
+        put(&mut cells, cell.column, value);
+    }
+    Ok(Row::of(cells))
+}
+
+fn put(cells: &mut List<Val>, column: u32, value: Val)
+    ensures { cells.new ≡ slice_set cells.old column value }
+{
+    let at = column as usize;
+    if at < cells.len() {
+        cells.set(at, value);
+    }
 }
 
 pub(crate) fn copy_cells(alloc: Global, cells: &[Val]) -> Result<List<Val>, NoMemory>
