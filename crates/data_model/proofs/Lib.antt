@@ -2,3 +2,4 @@ pub mod Lists
 pub mod Places
 pub mod Fitting
 pub mod Reasons
+pub mod WorkedForm
