@@ -1,2 +1,3 @@
-pub mod Stored
 pub mod Held
+pub mod Seen
+pub mod Stored

@@ -6,6 +6,8 @@ mod list;
 mod spelling;
 mod steps;
 mod text;
+#[cfg(test)]
+mod tests;
 mod val;
 
 pub use json_text::{write_json, write_quoted};
