@@ -65,11 +65,11 @@ fits_insert t row rows at fits row_is free apart room =
     record {
       kinds = out_append (λ row. IsTrue (row_fits t.columns row)) (take at rows) (row ∷ drop at rows) kinds_parts.0 (row_is, kinds_parts.1);
       ascending =
-        pairwise_with (λ a b. key_cmp (key_of t a) (key_of t b) ≡ Less) (take at rows) row (drop at rows) (whole (λ rows. Ascends t rows) rows at fits.ascending)
-        (all_out _ _ (λ k d in'. lt_is _ (free.below k d in'))) (all_out _ _ (λ k d in'. is_less (key_of t (get_or (drop at rows) k d)) (key_of t row) (gt_is _ (free.above k d in'))));
+          pairwise_with (λ a b. key_cmp (key_of t a) (key_of t b) ≡ Less) (take at rows) row (drop at rows) (whole (λ rows. Ascends t rows) rows at fits.ascending)
+          (all_out _ _ (λ k d in'. lt_is _ (free.below k d in'))) (all_out _ _ (λ k d in'. is_less (key_of t (get_or (drop at rows) k d)) (key_of t row) (gt_is _ (free.above k d in'))));
       unique =
-        pairwise_with (λ a b. clash t a b ≡ false) (take at rows) row (drop at rows) (whole (λ rows. Pairwise (λ a b. clash t a b ≡ false) rows) rows at fits.unique)
-        (all_out _ _ (λ k d in'. clash_back t _ row ∙ all_in (λ other. clash t row other ≡ false) (take at rows) apart_parts.0 k d in')) apart_parts.1;
+          pairwise_with (λ a b. clash t a b ≡ false) (take at rows) row (drop at rows) (whole (λ rows. Pairwise (λ a b. clash t a b ≡ false) rows) rows at fits.unique)
+          (all_out _ _ (λ k d in'. clash_back t _ row ∙ all_in (λ other. clash t row other ≡ false) (take at rows) apart_parts.0 k d in')) apart_parts.1;
       room = longer rows at row t.max_rows free.within (below_most t.max_rows (length rows) room);
     }
 
@@ -101,14 +101,14 @@ fits_set t after rows at d within fits row_is same_key apart =
     let kinds = out_parts (λ row. IsTrue (row_fits t.columns row)) front back rest.kinds in
     let up = subst (λ rows. Ascends t rows) split fits.ascending in
     let made : FitsTable t (front ++ after ∷ back) = record {
-        kinds = out_append (λ row. IsTrue (row_fits t.columns row)) front (after ∷ back) kinds.0 (row_is, kinds.1);
-        ascending = pairwise_with (λ a b. key_cmp (key_of t a) (key_of t b) ≡ Less) front after back rest.ascending
+      kinds = out_append (λ row. IsTrue (row_fits t.columns row)) front (after ∷ back) kinds.0 (row_is, kinds.1);
+      ascending = pairwise_with (λ a b. key_cmp (key_of t a) (key_of t b) ≡ Less) front after back rest.ascending
           (subst (λ k. AllByRecursion (λ a. key_cmp (key_of t a) k ≡ Less) front) (sym same_key) (pairwise_before (λ a b. key_cmp (key_of t a) (key_of t b) ≡ Less) front r back up))
           (subst (λ k. AllByRecursion (λ b. key_cmp k (key_of t b) ≡ Less) back) (sym same_key) (pairwise_after (λ a b. key_cmp (key_of t a) (key_of t b) ≡ Less) front r back up));
-        unique = pairwise_with (λ a b. clash t a b ≡ false) front after back rest.unique
+      unique = pairwise_with (λ a b. clash t a b ≡ false) front after back rest.unique
           (all_out _ _ (λ k e in'. clash_back t _ after ∙ all_in (λ other. clash t after other ≡ false) front apart_parts.0 k e in')) apart_parts.1;
-        room = as_long front after r back t.max_rows (subst (λ rows. length rows ≤ t.max_rows) split fits.room);
-      } in
+      room = as_long front after r back t.max_rows (subst (λ rows. length rows ≤ t.max_rows) split fits.room);
+    } in
     subst (λ rows. FitsTable t rows) (sym (set_split rows at after within)) made
 
 some_same : {X : Type 0} (x y : X) → Some x ≡ Some y → x ≡ y

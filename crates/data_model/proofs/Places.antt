@@ -60,11 +60,11 @@ pub inserted_at : (t : TableDef) (row : Row) (rows : Rows) (at : ℕ) → IsFree
 inserted_at t row rows at h =
     let key = key_of t row in
     let before : filter (is_below t key) rows ≡ take at rows =
-      parts (filter (is_below t key)) rows at ∙ filter-append (is_below t key) (take at rows) (drop at rows)
-      ∙ rw (filter_all (is_below t key) (take at rows) h.below, filter_none (is_below t key) (drop at rows) (not_below t key _ h.above)) (append-nil (take at rows)) in
+    parts (filter (is_below t key)) rows at ∙ filter-append (is_below t key) (take at rows) (drop at rows)
+    ∙ rw (filter_all (is_below t key) (take at rows) h.below, filter_none (is_below t key) (drop at rows) (not_below t key _ h.above)) (append-nil (take at rows)) in
     let after : filter (is_above t key) rows ≡ drop at rows =
-      parts (filter (is_above t key)) rows at ∙ filter-append (is_above t key) (take at rows) (drop at rows)
-      ∙ rw (filter_none (is_above t key) (take at rows) (not_above t key _ h.below), filter_all (is_above t key) (drop at rows) h.above) refl in
+    parts (filter (is_above t key)) rows at ∙ filter-append (is_above t key) (take at rows) (drop at rows)
+    ∙ rw (filter_none (is_above t key) (take at rows) (not_above t key _ h.below), filter_all (is_above t key) (drop at rows) h.above) refl in
     rw (before, after) refl
 
 or_nothing : (b : Bool) → (b || false) ≡ b

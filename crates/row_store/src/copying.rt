@@ -52,7 +52,13 @@ fn copy_table(alloc: Global, table: &TableDef) -> Result<TableDef, NoMemory>
     let key = copy_places(alloc, table.key.as_slice())?;
     let unique = copy_places(alloc, table.unique.as_slice())?;
     let max_rows = table.max_rows;
-    Ok(TableDef { name, columns, key, unique, max_rows })
+    Ok(TableDef {
+        name,
+        columns,
+        key,
+        unique,
+        max_rows,
+    })
 }
 
 fn copy_columns(alloc: Global, columns: &[Column]) -> Result<ColumnDefList, NoMemory>
@@ -71,7 +77,11 @@ fn copy_column(alloc: Global, column: &Column) -> Result<Column, NoMemory>
     let name = Str::of(alloc, column.name.as_str())?;
     let kind = column.kind;
     let nullable = column.nullable;
-    Ok(Column { name, kind, nullable })
+    Ok(Column {
+        name,
+        kind,
+        nullable,
+    })
 }
 
 fn copy_places(alloc: Global, places: &[u32]) -> Result<ColumnList, NoMemory>

@@ -44,7 +44,11 @@ fn compare_key(columns: &[u32], row: &[Val], key: &[Val]) -> Ordering
         }
         rest = later;
     }
-    if rest.is_empty() { Ordering::Equal } else { Ordering::Less }
+    if rest.is_empty() {
+        Ordering::Equal
+    } else {
+        Ordering::Less
+    }
 }
 
 /// The place of the first row whose key isn't below.
@@ -96,7 +100,11 @@ pub(crate) fn find_row(table: &TableDef, rows: &[Row], key: &[Val]) -> Result<us
     if at == rows.len() {
         return Err(at);
     }
-    if has_key(table, &rows[at], key) { Ok(at) } else { Err(at) }
+    if has_key(table, &rows[at], key) {
+        Ok(at)
+    } else {
+        Err(at)
+    }
 }
 
 fn is_null(value: &Val) -> bool

@@ -48,7 +48,12 @@ pub fn copy_row<L: Ledger>(alloc: Global, row: &Row, steps: &mut Steps<L>) -> Re
 }
 
 /// The row with new values, copied. It counts one step.
-pub(crate) fn with_cells<L: Ledger>(alloc: Global, row: &Row, set: &[SetCell], steps: &mut Steps<L>) -> Result<Row, NoMemory>
+pub(crate) fn with_cells<L: Ledger>(
+    alloc: Global,
+    row: &Row,
+    set: &[SetCell],
+    steps: &mut Steps<L>,
+) -> Result<Row, NoMemory>
     ensures value { IfOk result (λ made. made ≡ set_cells set.now row.now) }
     ensures step { steps.new ≡ steps.old + 1 }
 {
@@ -80,7 +85,11 @@ pub(crate) fn copy_cells(alloc: Global, cells: &[Val]) -> Result<List<Val>, NoMe
 }
 
 /// Equal rows, with one step for each.
-pub(crate) fn copy_rows<L: Ledger>(alloc: Global, rows: &[Row], steps: &mut Steps<L>) -> Result<List<Row>, NoMemory>
+pub(crate) fn copy_rows<L: Ledger>(
+    alloc: Global,
+    rows: &[Row],
+    steps: &mut Steps<L>,
+) -> Result<List<Row>, NoMemory>
     ensures equal { IfOk result (λ copy. copy ≡ rows.now) }
     ensures steps { steps.new ≤ steps.old + length rows.now }
 {

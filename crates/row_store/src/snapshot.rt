@@ -143,10 +143,18 @@ impl Snapshot {
         requires row { IsTrue (row_fits (table_at self.old table).columns cells) }
         ensures answer { IfOk result (λ stored. reason_of stored ≡ first_reason (insert_tests (table_at self.old table) cells (rows_at self.old table))) }
         ensures state { self.new ≡ after result self.old (with_rows self.old table (inserted (table_at self.old table) cells (rows_at self.old table))) }
+        ensures catalog { self.new.catalog ≡ self.old.catalog }
         ensures steps { steps.new ≤ steps.old + (length (rows_at self.old table) + 1) }
     {
         let catalog: &Catalog = &self.catalog;
-        insert_at(alloc, catalog.tables.as_slice(), self.tables.as_mut_slice(), table as usize, cells, steps)
+        insert_at(
+            alloc,
+            catalog.tables.as_slice(),
+            self.tables.as_mut_slice(),
+            table as usize,
+            cells,
+            steps,
+        )
     }
 
     /// Sets values in the row with a key, which has a value for each key column. Each value is one that its column takes,
@@ -164,10 +172,19 @@ impl Snapshot {
         requires set { IsTrue (list_all (may_stand (table_at self.old table)) set.now) }
         ensures answer { IfOk result (λ stored. reason_of stored ≡ first_reason (update_tests (table_at self.old table) key.now set.now (rows_at self.old table))) }
         ensures state { self.new ≡ after result self.old (with_rows self.old table (updated (table_at self.old table) key.now set.now (rows_at self.old table))) }
+        ensures catalog { self.new.catalog ≡ self.old.catalog }
         ensures steps { steps.new ≤ steps.old + (length (rows_at self.old table) + 1) }
     {
         let catalog: &Catalog = &self.catalog;
-        update_at(alloc, catalog.tables.as_slice(), self.tables.as_mut_slice(), table as usize, key, set, steps)
+        update_at(
+            alloc,
+            catalog.tables.as_slice(),
+            self.tables.as_mut_slice(),
+            table as usize,
+            key,
+            set,
+            steps,
+        )
     }
 
     /// Takes out the row with a key, which has a value for each key column. A refusal gives the reason against it. After a
@@ -182,9 +199,17 @@ impl Snapshot {
         requires { table < length self.old.tables }
         ensures answer { IfOk result (λ stored. reason_of stored ≡ first_reason (delete_tests (table_at self.old table) key.now (rows_at self.old table))) }
         ensures state { self.new ≡ after result self.old (with_rows self.old table (deleted (table_at self.old table) key.now (rows_at self.old table))) }
+        ensures catalog { self.new.catalog ≡ self.old.catalog }
         ensures steps { steps.new ≤ steps.old + (length (rows_at self.old table) + 1) }
     {
         let catalog: &Catalog = &self.catalog;
-        delete_at(alloc, catalog.tables.as_slice(), self.tables.as_mut_slice(), table as usize, key, steps)
+        delete_at(
+            alloc,
+            catalog.tables.as_slice(),
+            self.tables.as_mut_slice(),
+            table as usize,
+            key,
+            steps,
+        )
     }
 }

@@ -5,9 +5,9 @@ mod json_text;
 mod list;
 mod spelling;
 mod steps;
-mod text;
 #[cfg(test)]
 mod tests;
+mod text;
 mod val;
 
 pub use json_text::{write_json, write_quoted};

@@ -1,5 +1,6 @@
-use crate::{Kind, Val, cmp, copy_val, fit_scalar, read_text, write_json};
-use crate::{NoMemory, ReadFault, Str};
+use crate::{
+    Kind, NoMemory, ReadFault, Str, Val, cmp, copy_val, fit_scalar, read_text, write_json,
+};
 use std::alloc::Global;
 use std::cmp::Ordering;
 
@@ -28,7 +29,16 @@ fn spellings(alloc: Global) -> Result<Vec<u8>, NoMemory> {
     for text in ["true", "false", "True", ""] {
         spelled(alloc, Kind::Bool, text, &mut out)?;
     }
-    for text in ["-2147483648", "2147483647", "2147483648", "007", "+7", "-", "1.0", "-0"] {
+    for text in [
+        "-2147483648",
+        "2147483647",
+        "2147483648",
+        "007",
+        "+7",
+        "-",
+        "1.0",
+        "-0",
+    ] {
         spelled(alloc, Kind::Int, text, &mut out)?;
     }
     for text in [
@@ -52,7 +62,12 @@ fn spellings(alloc: Global) -> Result<Vec<u8>, NoMemory> {
     }
     fitted(alloc, Kind::Int, &Val::Big(2147483648), &mut out)?;
     fitted(alloc, Kind::Int, &Val::Big(-2147483648), &mut out)?;
-    fitted(alloc, Kind::Big, &Val::Text(Str::of(alloc, "-5")?), &mut out)?;
+    fitted(
+        alloc,
+        Kind::Big,
+        &Val::Text(Str::of(alloc, "-5")?),
+        &mut out,
+    )?;
     fitted(alloc, Kind::Int, &Val::Text(Str::of(alloc, "5")?), &mut out)?;
     write_json(&Val::Null, &mut out)?;
     Ok(out)
@@ -91,7 +106,12 @@ bad
 null";
     let out = spellings(rt.alloc())?;
     assert_eq!(rt; out.as_slice(), want.as_bytes());
-    let (null, no, least, text) = (Val::Null, Val::Bool(false), Val::Int(-7), Str::of(rt.alloc(), "")?);
+    let (null, no, least, text) = (
+        Val::Null,
+        Val::Bool(false),
+        Val::Int(-7),
+        Str::of(rt.alloc(), "")?,
+    );
     assert!(rt; cmp(&null, &no) == Ordering::Less);
     assert!(rt; cmp(&Val::Text(text), &least) == Ordering::Greater);
     Ok(())

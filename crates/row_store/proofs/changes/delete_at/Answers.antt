@@ -13,8 +13,10 @@ def_of-requires g c = in_range (λ rows. arc_value rows) c.args.defs.now c.args.
 
 pub delete_from-requires : goal.delete_from-requires
 delete_from-requires g c =
-    record { fits = subst (λ t. FitsTable t (arc_value (get_or c.args.tables.now c.args.at c.index-tables-at.result))) (sym c.def_of.ensures)
-    (table_fits (λ rows. arc_value rows) c.args.defs.now c.args.tables.now c.args.at c.index-tables-at.result c.requires.fits c.requires.range) }
+    record {
+      fits = subst (λ t. FitsTable t (arc_value (get_or c.args.tables.now c.args.at c.index-tables-at.result))) (sym c.def_of.ensures)
+          (table_fits (λ rows. arc_value rows) c.args.defs.now c.args.tables.now c.args.at c.index-tables-at.result c.requires.fits c.requires.range);
+    }
 
 pub returns-clause-answer : goal.returns-clause-answer
 returns-clause-answer g c =

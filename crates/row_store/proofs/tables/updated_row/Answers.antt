@@ -21,7 +21,7 @@ pub returns-then-clashes_elsewhere-clause-refused : goal.returns-then-clashes_el
 returns-then-clashes_elsewhere-clause-refused g c =
     let made = row_made c.args.rows.now c.in-Ok.at c.index-rows-at.result c.in_ok-row-in-Ok.row c.args.set.now c.in-Ok.ensures.ok.within c.index-rows-at.is c.in_ok-row-in-Ok.ensures.value in
     sym (update_clash c.args.table.now c.args.key.now c.args.set.now c.args.rows.now c.in-Ok.at [] c.in-Ok.ensures.ok
-      (clash_made c.args.table.now c.args.rows.now c.in-Ok.at c.cells.result.now _ _ _ true c.cells.ensures made c.clashes_elsewhere.ensures c.if-clashes_elsewhere.true))
+    (clash_made c.args.table.now c.args.rows.now c.in-Ok.at c.cells.result.now _ _ _ true c.cells.ensures made c.clashes_elsewhere.ensures c.if-clashes_elsewhere.true))
 
 pub returns-else-clashes_elsewhere-clause-made : goal.returns-else-clashes_elsewhere-clause-made
 returns-else-clashes_elsewhere-clause-made g c =
@@ -33,10 +33,10 @@ returns-else-clashes_elsewhere-clause-fits g c =
     let made = row_made c.args.rows.now c.in-Ok.at c.index-rows-at.result c.in_ok-row-in-Ok.row c.args.set.now c.in-Ok.ensures.ok.within c.index-rows-at.is c.in_ok-row-in-Ok.ensures.value in
     subst (λ m. FitsTable c.args.table.now (slice_set c.args.rows.now c.in-Ok.at m)) (sym made)
     (updated_fits c.args.table.now c.args.key.now c.args.set.now c.args.rows.now c.in-Ok.at [] c.requires.fits c.in-Ok.ensures.ok c.requires.set
-      (clash_made c.args.table.now c.args.rows.now c.in-Ok.at c.cells.result.now _ _ _ false c.cells.ensures made c.clashes_elsewhere.ensures c.if-clashes_elsewhere.false))
+    (clash_made c.args.table.now c.args.rows.now c.in-Ok.at c.cells.result.now _ _ _ false c.cells.ensures made c.clashes_elsewhere.ensures c.if-clashes_elsewhere.false))
 
 pub returns-else-clashes_elsewhere-clause-none : goal.returns-else-clashes_elsewhere-clause-none
 returns-else-clashes_elsewhere-clause-none g c =
     let made = row_made c.args.rows.now c.in-Ok.at c.index-rows-at.result c.in_ok-row-in-Ok.row c.args.set.now c.in-Ok.ensures.ok.within c.index-rows-at.is c.in_ok-row-in-Ok.ensures.value in
     sym (may_update c.args.table.now c.args.key.now c.args.set.now c.args.rows.now c.in-Ok.at [] c.in-Ok.ensures.ok
-      (clash_made c.args.table.now c.args.rows.now c.in-Ok.at c.cells.result.now _ _ _ false c.cells.ensures made c.clashes_elsewhere.ensures c.if-clashes_elsewhere.false))
+    (clash_made c.args.table.now c.args.rows.now c.in-Ok.at c.cells.result.now _ _ _ false c.cells.ensures made c.clashes_elsewhere.ensures c.if-clashes_elsewhere.false))
