@@ -1,4 +1,6 @@
 pub mod Cells
+pub mod Form
+pub mod Places
 pub mod Rows
 pub mod Transactions
 pub mod Worked

@@ -1,5 +1,5 @@
 -- Rows, databases that fit a catalog, and what one change makes of a table's rows. This project's own.
-use Rattle.std.specs.Prelude.{◌≡◌, ℕ, ◌≤◌, Bool, true, false, not, ◌&&◌, if◌then◌else◌, nat_le, Option, Some, None, List, [], ◌∷◌, ◌++◌, length, map, slice_get, slice_set, unwrap_or, IsTrue, ⊤}
+use Rattle.std.specs.Prelude.{◌≡◌, ℕ, ◌≤◌, Bool, true, false, not, ◌&&◌, if◌then◌else◌, nat_le, Option, Some, None, List, [], ◌∷◌, ◌++◌, length, map, slice_get, slice_set, unwrap_or, option_map, ◌==◌, IsTrue, ⊤}
 use Rattle.std.specs.Ordering.{is_lt, is_eq, is_gt}
 use Rattle.std.specs.Cmp.Lexicographic.{slice_cmp}
 use Rattle.std.specs.declared.cmp.Ordering.{Ordering}
@@ -81,10 +81,14 @@ abbrev pub Pairwise : {X : Type 0} → (X → X → Type 0) → List X → Type 
 Pairwise R [] = ⊤
 Pairwise R (x ∷ xs) = AllByRecursion (R x) xs × Pairwise R xs
 
+-- each row's key is below those of all later rows
+abbrev pub Ascends : TableDef → Rows → Type 0
+Ascends table rows = Pairwise (λ a b. key_cmp (key_of table a) (key_of table b) ≡ Less) rows
+
 -- kinds, ascending keys, unique columns, and the most rows
 pub record FitsTable (table : TableDef) (rows : Rows) : Type 0 where
   pub kinds : AllByRecursion (λ row. IsTrue (row_fits table.columns row)) rows
-  pub ascending : Pairwise (λ a b. key_cmp (key_of table a) (key_of table b) ≡ Less) rows
+  pub ascending : Ascends table rows
   pub unique : Pairwise (λ a b. clash table a b ≡ false) rows
   pub room : length rows ≤ table.max_rows
 
@@ -145,3 +149,7 @@ update_tests table key cells rows =
 
 abbrev pub delete_tests : TableDef → List Val → Rows → List Test
 delete_tests table key rows = test reason.NoRow (not (list_any (has_key table key) rows)) ∷ []
+
+-- a new value that its column takes, and not in a key column
+abbrev pub may_stand : TableDef → SetCell → Bool
+may_stand table c = unwrap_or (option_map (λ column. stands_in column c.value) (slice_get table.columns c.column)) false && not (list_any (λ column. column == c.column) table.key)

@@ -1,4 +1,4 @@
-ghost use Rattle.std.specs.Prelude.{◌≡◌, [], ◌∷◌, ◌++◌, ◌<◌, ◌≤◌, ◌↔◌, length, insert, slice_get, IsTrue, IfErr, OnOk, OnErr, OnSome};
+ghost use Rattle.std.specs.Prelude.{◌≡◌, [], ◌∷◌, ◌++◌, ◌<◌, ◌≤◌, ◌↔◌, length, insert, remove, slice_get, slice_set, Some, IsTrue, IfErr, OnOk, OnErr, OnSome};
 ghost use Rattle.std.specs.Option.{option_copied};
 
 use std::alloc::Global;
@@ -83,6 +83,25 @@ impl<T> List<T> {
             Ok(()) => Ok(()),
             Err(refused) => Err(refused.value),
         }
+    }
+
+    /// Takes out the item at a place; the later ones move down.
+    pub fn remove(&mut self, at: usize) -> T
+        requires { at < length self.old }
+        ensures value { slice_get self.old at ≡ Some result }
+        ensures rest { self.new ≡ remove self.old at }
+    {
+        self.items.remove(at)
+    }
+
+    /// Puts an item in the place of another, which is dropped.
+    pub fn set(&mut self, at: usize, item: T)
+    where
+        T: Drop,
+        requires { at < length self.old }
+        ensures { self.new ≡ slice_set self.old at item }
+    {
+        self.items[at] = item;
     }
 
     /// Adds an item at the end, or hands it back for want of memory.
