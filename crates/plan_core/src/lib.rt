@@ -1,0 +1,12 @@
+//! Conditions on rows and the values that they are run with.
+#![tactic(auto)]
+
+mod binding;
+mod condition;
+
+pub use binding::copy_binding;
+pub use condition::truth;
+pub use role_model::{
+    Binding, ColumnList, Field, FieldList, Filter, FilterList, Items, Op, Operand, OperandList,
+    Order, OrderList, Plan, Select, Shape, Slot, SlotList, StrList, TruthValue, ValList,
+};

@@ -1,0 +1,4 @@
+pub mod StrMaps
+pub mod Truths
+pub mod TruthRows
+pub mod MetadataRows
