@@ -5,6 +5,8 @@ mod json_text;
 mod list;
 mod spelling;
 mod steps;
+#[cfg(test)]
+mod tests;
 mod text;
 mod val;
 
