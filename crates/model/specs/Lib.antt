@@ -12,3 +12,5 @@ pub mod Built
 pub mod Transcript
 pub mod Script
 pub mod Shown
+pub mod Worked
+pub mod WorkedEvents
