@@ -1,4 +1,4 @@
-ghost use Rattle.std.specs.Prelude.{◌≡◌, ◌^◌, ◌≤◌};
+ghost use Rattle.std.specs.Prelude.{◌≡◌, ◌^◌, ◌<◌, ◌≤◌};
 ghost use Rattle.model.specs.Script.{read_number};
 ghost use Rattle.script_text.specs.Numbers.{small_number};
 
@@ -20,7 +20,8 @@ pub(crate) fn read_job(text: &str) -> Option<u64>
 
 /// The number below a limit that a text writes in decimal without leading zeros.
 fn read_number(text: &str, limit: u128) -> Option<u64>
-    requires { limit ≤ 2 ^ 64 }
+    requires some { 0 < limit }
+    requires fits { limit ≤ 2 ^ 64 }
     ensures { result ≡ read_number limit text.now }
 {
     let number = small_number(text.as_bytes(), limit)?;
@@ -33,7 +34,8 @@ fn read_number(text: &str, limit: u128) -> Option<u64>
 
 /// The number that digits name, where it is below a limit.
 fn small_number(text: &[u8], limit: u128) -> Option<u64>
-    requires { limit ≤ 2 ^ 64 }
+    requires some { 0 < limit }
+    requires fits { limit ≤ 2 ^ 64 }
     ensures { result ≡ small_number limit text.now }
 {
     let mut number: u128 = 0;
@@ -42,9 +44,6 @@ fn small_number(text: &[u8], limit: u128) -> Option<u64>
         if number >= limit {
             return None;
         }
-    }
-    if number >= limit {
-        return None;
     }
     u64::try_from(number).ok()
 }
