@@ -14,3 +14,4 @@ pub mod Script
 pub mod Shown
 pub mod Worked
 pub mod WorkedEvents
+pub mod WorkedScript
