@@ -47,7 +47,7 @@ fn run_form<L: Ledger>(
 ) -> Taken
     requires stands { (h : List Event) × StandsFor hub.old h }
     requires few { hub.old.events + 1 + 2 * length hub.old.subscriptions < 2 ^ 62 }
-    ensures { (h : List Event) → StandsFor hub.old h → LineRan result (acts hub.old.meta (run hub.old.meta h) (line_of line)) hub.old hub.new out.old.items out.new.items }
+    ensures { (h : List Event) → StandsFor hub.old h → LineRan result (acts hub.old.meta (run hub.old.meta h) (line_of line.entry)) hub.old hub.new out.old.items out.new.items }
 {
     match line {
         Line::Passed => Taken::Went,

@@ -19,6 +19,6 @@ pub returns-in-Ok-Refused : goal.returns-in-Ok-Refused
 returns-in-Ok-Refused g c h st =
     let tx = c.args.tx.now in
     let answers = rw c.in-Ok-Refused.field-0-is at c.in-Ok-Refused.ensures.reply in
-    line_ran c.went.result c.write_refused.result _ c.args.hub.now c.commit.new.self c.args.out.now.items c.write_refused.new.out.items c.went.ensures
+    line_ran c.went-in-Ok-Refused.result c.write_refused.result _ c.args.hub.now c.commit.new.self c.args.out.now.items c.write_refused.new.out.items c.went-in-Ok-Refused.ensures
     (λ ok. served c.args.hub.now c.commit.new.self h (Commit tx) (Declined c.in-Ok-Refused.fault) [] c.args.out.now.items c.write_refused.new.out.items answers st (subs-commit c.args.hub.now.meta (run c.args.hub.now.meta h) tx)
     (when_ok c.write_refused.result ((t : List TxChange) → Tells (Commit t) (Declined c.in-Ok-Refused.fault) [] c.args.out.now.items c.write_refused.new.out.items) c.write_refused.ensures ok tx))

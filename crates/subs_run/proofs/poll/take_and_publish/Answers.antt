@@ -8,7 +8,7 @@ use Rattle.subs_run.proofs.Polls.{took_some, not_open, are_answers}
 use Rattle.subs_run.proofs.poll.take_and_publish.Goals as goal
 
 pub returns-in-Ok-Published-clause-took : goal.returns-in-Ok-Published-clause-took
-returns-in-Ok-Published-clause-took c h st =
+returns-in-Ok-Published-clause-took g c h st =
     let job = c.in-Some.job in
     let taking = rw c.in-Some.is at c.in_ok-job.ensures.reply in
     let publishing = rw c.in-Ok-Published.field-0-is at c.in-Ok-Published.ensures.reply in
@@ -20,12 +20,12 @@ returns-in-Ok-Published-clause-took c h st =
     let happened : Happened c.take.new.self c.publish.new.self h1 (Publish job.number) (Published job.version) queued =
     subst (λ (v : ℕ). Happened c.take.new.self c.publish.new.self h1 (Publish job.number) (Published v) queued) c.of-answers.ensures.version
     (subst (λ (n : ℕ). Happened c.take.new.self c.publish.new.self h1 (Publish n) (Published c.of-answers.result.version) queued) c.of-answers.ensures.number by_answers) in
-    took_some c.args.hub.now c.take.new.self c.publish.new.self h (job_of job) job.number job.version queued c.args.out.now.items c.write_taken.new.out.items c.write_published.new.out.items taking.0 taking.2 taking.3 publishing.0 happened c.in_ok-write_taken.ensures c.in_ok-write_published-in-Ok-Published.ensures st
+    took_some c.args.hub.now c.take.new.self c.publish.new.self h (job_of job) job.number job.version queued c.args.out.now.items c.write_taken.new.out.items c.write_published.new.out.items taking.0 taking.3 taking.4 publishing.0 happened c.in_ok-write_taken.ensures c.in_ok-write_published-in-Ok-Published.ensures st
 
 pub returns-in-Ok-NotOpen-clause-took : goal.returns-in-Ok-NotOpen-clause-took
-returns-in-Ok-NotOpen-clause-took c h st =
+returns-in-Ok-NotOpen-clause-took g c h st =
     let job = c.in-Some.job in
     let taking = rw c.in-Some.is at c.in_ok-job.ensures.reply in
     let publishing = rw c.in-Ok-NotOpen.field-0-is at c.in-Ok-NotOpen.ensures.reply in
     let does : Does c.take.new.self c.publish.new.self (Publish job.number) NotOpen [] = subst (λ (n : ℕ). Does c.take.new.self c.publish.new.self (Publish n) NotOpen []) c.of-answers.ensures.number publishing.0 in
-    absurd (not_open c.args.hub.now c.take.new.self c.publish.new.self h (job_of job) job.number taking.0 taking.2 does st)
+    absurd (not_open c.args.hub.now c.take.new.self c.publish.new.self h (job_of job) job.number taking.0 taking.3 does st)

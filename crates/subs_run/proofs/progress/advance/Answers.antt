@@ -1,4 +1,4 @@
-use Rattle.std.proofs.Common.{◌≡◌, ◌∙◌, ℕ, List, Err, true, sym, subst}
+use Rattle.std.proofs.Common.{◌≡◌, ◌∙◌, ◌+◌, ℕ, List, Err, true, ap, sym, subst}
 use Rattle.std.specs.Prelude.{codes}
 use Rattle.role_model.specs.MetadataFaults.{metadata_of}
 use Rattle.model.specs.Values.{same_text}
@@ -24,4 +24,5 @@ pub returns-in-Err-Refused : goal.returns-in-Err-Refused
 returns-in-Err-Refused g c taken reading few st =
     let here : reading ≡ Heading c.in-Heading.metadata.items = subst (λ (p : Progress). StandsAt p taken reading) c.in-Heading.is st in
     let same : same_text c.args.line.now (codes "---") ≡ true = sym c.ends_metadata.ensures ∙ c.if-not-ends_metadata.false in
-    begins_not reading c.in-Heading.metadata.items c.args.line.now c.in-Err-Refused.fault (progress.Heading c.in-Heading.metadata) (taken + 1) c.args.out.now.items here same ?
+    begins_not reading c.in-Heading.metadata.items c.args.line.now c.in-Err-Refused.fault (progress.Heading c.in-Heading.metadata) (taken + 1) c.args.out.now.items here same
+    (subst (λ (xs : List ℕ). metadata_of xs ≡ Err c.in-Err-Refused.fault) c.deref.ensures.value (c.begin.ensures.refused c.in-Err-Refused.fault (c.in-Err-Refused.is ∙ ap Err c.in-Err-Refused.field-0-is)))
