@@ -3,6 +3,7 @@
 
 mod applying;
 mod changing;
+mod members;
 mod naming;
 mod reading;
 mod reasons;
