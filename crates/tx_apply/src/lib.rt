@@ -2,7 +2,12 @@
 #![tactic(auto)]
 
 mod applying;
+mod changing;
+mod members;
+mod naming;
 mod reading;
+mod reasons;
+mod values;
 
 pub use applying::{ApplyFault, apply};
 pub use data_model::{Reason, Tx, TxCell, TxCells, TxChange, TxFault};
