@@ -1,5 +1,4 @@
 pub mod Values
-pub mod Rows
 pub mod Queries
 pub mod Messages
 pub mod Admission

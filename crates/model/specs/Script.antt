@@ -1,14 +1,20 @@
 -- Scripts: their lines, and the outcome of a whole script. This project's own.
-use Rattle.std.specs.Prelude.{ℕ, ◌+◌, ◌^◌, Bool, true, false, ◌&&◌, ◌==◌, nat_lt, if◌then◌else◌, Option, Some, None, List, [], ◌∷◌, ◌++◌, length, take, drop, codes, decimal}
-use Rattle.std.specs.List.{list_all, starts_with, before_first, after_first}
-use Rattle.model.specs.Values.{same_text}
-use Rattle.model.specs.Rows.{Table, Transaction}
+use Rattle.std.specs.Prelude.{ℕ, ◌+◌, ◌^◌, Bool, true, false, ◌&&◌, ◌==◌, nat_lt, if◌then◌else◌, Option, Some, None, option_map, List, [], ◌∷◌, ◌++◌, length, take, drop, codes, decimal, Result, Ok, Err}
+use Rattle.std.specs.List.{list_any, starts_with, before_first, after_first}
+use Rattle.std.specs.Str.{is_utf8}
+use Rattle.data_model.specs.declared.transaction.TxChange.{TxChange}
+use Rattle.data_model.specs.Form.{transaction}
+use Rattle.role_model.specs.declared.metadata.MetaFault.{MetaFault}
+use Rattle.role_model.specs.declared.metadata.MetaFault.TheVariants as fault
+use Rattle.role_model.specs.MetadataFaults.{metadata_of}
+use Rattle.role_model.specs.declared.metadata.Metadata.{Metadata}
+use Rattle.model.specs.Values.{same_text, number_of}
 use Rattle.model.specs.Messages.{Message}
-use Rattle.model.specs.Admission.{Meta, number_of}
-use Rattle.model.specs.State.{State, Event, Connect, Receive, Commit, opening}
+use Rattle.model.specs.State.{State, Event, opening}
+use Rattle.model.specs.State as event
 use Rattle.model.specs.Run.{happens}
-use Rattle.model.specs.Forms.{read_metadata, read_message, read_transaction}
-use Rattle.model.specs.Built.{is_built}
+use Rattle.model.specs.Forms.{read_message}
+use Rattle.model.specs.Built.{is_built, knows}
 use Rattle.model.specs.Transcript.{Reached, goes, poll}
 
 -- Lines
@@ -33,88 +39,175 @@ read_number limit text = if same_text text (decimal (number_of text)) && nat_lt 
 
 pub data Line : Type 0 where
   Passed : Line
+  Open : (connection : ℕ) → Line
+  Receive : (connection : ℕ) (text : List ℕ) → Line
+  Binary : (connection : ℕ) → Line
+  Timeout : (connection : ℕ) → Line
+  Gone : (connection : ℕ) → Line
+  Commit : (text : List ℕ) → Line
+  Tick : Line
+  Take : Line
+  Publish : (job : ℕ) → Line
+  Abandon : (job : ℕ) → Line
+  Drain : (connection : ℕ) → Line
+  Report : Line
   Poll : Line
-  Act : (event : Event) → Line
 
--- every form that is read so far is in ASCII
-abbrev pub is_ascii : List ℕ → Bool
-is_ascii = list_all (λ b. nat_lt b 128)
+-- a connection has a number of 32 bits, a job one of 64 bits
+abbrev pub of_connection : (ℕ → Line) → List ℕ → Option Line
+of_connection form text = option_map form (read_number (2 ^ 32) text)
 
-abbrev pub connect_line : Option ℕ → Option Line
-connect_line (Some c) = Some (Act (Connect c))
-connect_line None = None
-
-abbrev pub receive_line : Option ℕ → Option Message → Option Line
-receive_line (Some c) (Some message) = Some (Act (Receive c message))
-receive_line (Some c) None = None
-receive_line None message = None
-
-abbrev pub commit_line : Option Transaction → Option Line
-commit_line (Some tx) = Some (Act (Commit tx))
-commit_line None = None
-
-abbrev pub read_commit : List Table → List ℕ → Option Line
-read_commit [] text = None
-read_commit (table ∷ tables) text = commit_line (read_transaction table text)
+abbrev pub of_job : (ℕ → Line) → List ℕ → Option Line
+of_job form text = option_map form (read_number (2 ^ 64) text)
 
 abbrev pub is_space : ℕ → Bool
 is_space b = b == 32
 
-abbrev pub read_receive : List ℕ → Option Line
-read_receive text = receive_line (read_number (2 ^ 32) (before_first is_space text)) (read_message (after_first is_space text))
+-- a connection, a space and a text, which may be empty
+abbrev pub of_text : List ℕ → Option Line
+of_text text = if list_any is_space text then option_map (λ c. Receive c (after_first is_space text)) (read_number (2 ^ 32) (before_first is_space text)) else None
 
--- the event of a line, by its first word
-abbrev pub read_event : Meta → List ℕ → Option Line
-read_event meta text =
-    if same_text text (codes "poll") then Some Poll
-    else (if starts_with ◌==◌ text (codes "open ") then connect_line (read_number (2 ^ 32) (drop 5 text))
-    else (if starts_with ◌==◌ text (codes "recv ") then read_receive (drop 5 text)
-    else (if starts_with ◌==◌ text (codes "commit ") then read_commit meta.tables (drop 7 text)
+abbrev pub begins : List ℕ → List ℕ → Bool
+begins text word = starts_with ◌==◌ text word
+
+-- the forms of one word
+abbrev pub read_word : List ℕ → Option Line
+read_word text =
+    if same_text text (codes "tick") then Some Tick
+    else (if same_text text (codes "take") then Some Take
+    else (if same_text text (codes "report") then Some Report
+    else (if same_text text (codes "poll") then Some Poll
     else None)))
 
--- An empty line or a comment is passed over. Any other line is of one of the forms that are read so far.
-abbrev pub read_line : Meta → List ℕ → Option Line
-read_line meta [] = Some Passed
-read_line meta (b ∷ bs) = if b == 35 then Some Passed else (if is_ascii (b ∷ bs) then read_event meta (b ∷ bs) else None)
+-- the forms of a word and a job
+abbrev pub read_job : List ℕ → Option Line
+read_job text =
+    if begins text (codes "publish ") then of_job Publish (drop 8 text)
+    else (if begins text (codes "abandon ") then of_job Abandon (drop 8 text)
+    else read_word text)
+
+-- the forms of a word and a connection
+abbrev pub read_connection : List ℕ → Option Line
+read_connection text =
+    if begins text (codes "open ") then of_connection Open (drop 5 text)
+    else (if begins text (codes "binary ") then of_connection Binary (drop 7 text)
+    else (if begins text (codes "timeout ") then of_connection Timeout (drop 8 text)
+    else (if begins text (codes "gone ") then of_connection Gone (drop 5 text)
+    else (if begins text (codes "drain ") then of_connection Drain (drop 6 text)
+    else read_job text))))
+
+-- the forms that end with a text, and all others
+abbrev pub read_form : List ℕ → Option Line
+read_form text =
+    if begins text (codes "recv ") then of_text (drop 5 text)
+    else (if begins text (codes "commit ") then Some (Commit (drop 7 text))
+    else read_connection text)
+
+-- An empty line or a comment is passed over. Any other line is of one of the forms above, in UTF-8.
+abbrev pub read_line : List ℕ → Option Line
+read_line [] = Some Passed
+read_line (b ∷ bs) = if b == 35 then Some Passed else (if is_utf8 (b ∷ bs) then read_form (b ∷ bs) else None)
 
 -- Reading a script
 
 -- the metadata's lines with their line ends, or the state reached
 pub data Reading : Type 0 where
   Heading : (metadata : List ℕ) → Reading
-  Running : (meta : Meta) (state : State) → Reading
+  Running : (meta : Metadata) (state : State) → Reading
 
+-- why a script ends before its end
 pub data Reason : Type 0 where
   Cut : Reason
   Size : Reason
+  BadMetadata : (fault : MetaFault) → Reason
+  NotEvent : Reason
+  NotTransaction : Reason
+  Known : Reason
+  Unknown : Reason
   Unbuilt : Reason
 
-abbrev pub reason_name : Reason → List ℕ
-reason_name Cut = codes "cut"
-reason_name Size = codes "size"
-reason_name Unbuilt = codes "unbuilt"
+abbrev pub fault_name : MetaFault → List ℕ
+fault_name fault.TooLong = codes "TooLong"
+fault_name fault.Toml = codes "Toml"
+fault_name fault.BadForm = codes "BadForm"
+fault_name fault.BadVersion = codes "BadVersion"
+fault_name fault.TooMany = codes "TooMany"
+fault_name fault.BadName = codes "BadName"
+fault_name fault.Duplicate = codes "Duplicate"
+fault_name fault.NoTable = codes "NoTable"
+fault_name fault.NoColumn = codes "NoColumn"
+fault_name fault.BadKind = codes "BadKind"
+fault_name fault.BadRole = codes "BadRole"
+fault_name fault.BadFilter = codes "BadFilter"
+
+abbrev pub reason_text : Reason → List ℕ
+reason_text Cut = codes "cut"
+reason_text Size = codes "size"
+reason_text (BadMetadata fault) = codes "metadata " ++ fault_name fault
+reason_text NotEvent = codes "event"
+reason_text NotTransaction = codes "transaction"
+reason_text Known = codes "known"
+reason_text Unknown = codes "unknown"
+reason_text Unbuilt = codes "unbuilt"
 
 -- a line was taken, with its transcript, or is at fault
 pub data Took : Type 0 where
   Went : (reading : Reading) (text : List ℕ) → Took
   Faulty : (reason : Reason) → Took
 
-abbrev pub went : Meta → Reached → Took
+abbrev pub went : Metadata → Reached → Took
 went meta r = Went (Running meta r.state) r.text
 
-abbrev pub act : Meta → State → Option Line → Took
-act meta s (Some Passed) = Went (Running meta s) []
-act meta s (Some Poll) = went meta (poll meta s)
-act meta s (Some (Act e)) = if is_built meta s e then went meta (goes e (happens meta s e)) else Faulty Unbuilt
-act meta s None = Faulty Unbuilt
+-- an event, where it is built
+abbrev pub serves : Metadata → State → Event → Took
+serves meta s e = if is_built meta s e then went meta (goes e (happens meta s e)) else Faulty Unbuilt
 
-abbrev pub begin : Option Meta → Took
-begin (Some meta) = Went (Running meta opening) []
-begin None = Faulty Unbuilt
+-- a connection opens, which must not be known
+abbrev pub opens : Metadata → State → ℕ → Took
+opens meta s c = if knows s c then Faulty Known else serves meta s (event.Connect c)
+
+-- what a line does on a connection that must be known
+abbrev pub on_known : State → ℕ → Took → Took
+on_known s c took = if knows s c then took else Faulty Unknown
+
+-- a text of a client: the message that it is, where its form is built
+abbrev pub receives : Metadata → State → ℕ → Option Message → Took
+receives meta s c (Some message) = serves meta s (event.Receive c message)
+receives meta s c None = Faulty Unbuilt
+
+abbrev pub commits : Metadata → State → Option (List TxChange) → Took
+commits meta s (Some tx) = serves meta s (event.Commit tx)
+commits meta s None = Faulty NotTransaction
+
+-- what a line does
+abbrev pub acts : Metadata → State → Line → Took
+acts meta s Passed = Went (Running meta s) []
+acts meta s (Open c) = opens meta s c
+acts meta s (Receive c text) = on_known s c (receives meta s c (read_message text))
+acts meta s (Binary c) = on_known s c (Faulty Unbuilt)
+acts meta s (Timeout c) = on_known s c (Faulty Unbuilt)
+acts meta s (Gone c) = on_known s c (Faulty Unbuilt)
+acts meta s (Commit text) = commits meta s (transaction text)
+acts meta s Tick = Faulty Unbuilt
+acts meta s Take = Faulty Unbuilt
+acts meta s (Publish job) = Faulty Unbuilt
+acts meta s (Abandon job) = Faulty Unbuilt
+acts meta s (Drain c) = on_known s c (Faulty Unbuilt)
+acts meta s Report = Faulty Unbuilt
+acts meta s Poll = went meta (poll meta s)
+
+abbrev pub act : Metadata → State → Option Line → Took
+act meta s (Some line) = acts meta s line
+act meta s None = Faulty NotEvent
+
+-- the metadata ends: it has no fault, or its first fault is the line's
+abbrev pub begin : Result Metadata MetaFault → Took
+begin (Ok meta) = Went (Running meta opening) []
+begin (Err f) = Faulty (BadMetadata f)
 
 abbrev pub take_line : Reading → List ℕ → Took
-take_line (Heading metadata) text = if same_text text (codes "---") then begin (read_metadata metadata) else Went (Heading (metadata ++ text ++ 10 ∷ [])) []
-take_line (Running meta s) text = act meta s (read_line meta text)
+take_line (Heading metadata) text = if same_text text (codes "---") then begin (metadata_of metadata) else Went (Heading (metadata ++ text ++ 10 ∷ [])) []
+take_line (Running meta s) text = act meta s (read_line text)
 
 -- where reading stands after some lines: going on, or at the first fault
 pub data Standing : Type 0 where
@@ -164,7 +257,7 @@ outcome bytes = let parts = lines (take limit bytes) in outcome_of (nat_lt limit
 
 abbrev pub fault_line : Option (ℕ × Reason) → List ℕ
 fault_line None = []
-fault_line (Some (line, reason)) = codes "fault " ++ decimal line ++ 32 ∷ reason_name reason ++ 10 ∷ []
+fault_line (Some (line, reason)) = codes "fault " ++ decimal line ++ 32 ∷ reason_text reason ++ 10 ∷ []
 
 -- all that is written for a script
 abbrev pub output : List ℕ → List ℕ

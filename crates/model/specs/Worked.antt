@@ -1,41 +1,66 @@
 -- Worked examples, which compute.
-use Rattle.std.specs.Prelude.{◌≡◌, ℕ, pos, refl, None, List, [], ◌∷◌, ◌++◌, map, codes}
+use Rattle.std.specs.Prelude.{◌≡◌, ℕ, pos, Bool, true, false, refl, None, List, [], ◌∷◌, ◌++◌, map, codes}
 use Rattle.std.specs.Fmt.{digits}
 use Rattle.std.specs.List.{flat_map}
 use Rattle.json.specs.Print.{escape_byte}
+use Rattle.scalar_val.specs.declared.val.Val.{Val}
 use Rattle.scalar_val.specs.declared.val.Val.TheVariants as val
-use Rattle.model.specs.Rows.{Table, Row, Transaction, Insert, Update, IsSession}
+use Rattle.scalar_val.specs.declared.val.Kind.{Kind}
+use Rattle.scalar_val.specs.declared.val.Kind.TheVariants as kind
+use Rattle.data_model.specs.declared.catalog.Column.{Column}
+use Rattle.data_model.specs.declared.catalog.TableDef.{TableDef}
+use Rattle.data_model.specs.declared.transaction.TxCell.{TxCell}
+use Rattle.data_model.specs.declared.transaction.TxChange.{TxChange}
+use Rattle.data_model.specs.declared.transaction.TxChange.TheVariants.{Insert, Update}
+use Rattle.role_model.specs.declared.metadata.Metadata.{Metadata}
+use Rattle.role_model.specs.declared.metadata.RoleDef.{RoleDef}
 use Rattle.model.specs.Messages.{Init, Subscribe, Complete}
-use Rattle.model.specs.Admission.{Meta}
 use Rattle.model.specs.State.{Event, Connect, Receive, Commit, Tick, Take, Publish, Abandon, Reply, Did, Ticked, Nobody, Taken, NotOpen, Published, Committed, Abandoned, Queued}
 use Rattle.model.specs.Run.{steps}
 
-abbrev told : Meta → List Event → List Queued
+abbrev told : Metadata → List Event → List Queued
 told meta es = flat_map (λ s. s.queued) (steps meta es)
 
-abbrev replies : Meta → List Event → List Reply
+abbrev replies : Metadata → List Event → List Reply
 replies meta es = map (λ s. s.reply) (steps meta es)
 
-abbrev user : Table
-user = record { name = codes "user"; columns = codes "id" ∷ codes "name" ∷ []; key = 0 ∷ []; permissions = [] }
+abbrev pub column : List ℕ → Kind → Bool → Column
+column name kind nullable = record { name = name; kind = kind; nullable = nullable }
 
-abbrev users : Meta
-users = record { tables = user ∷ []; batch_size = 100; secret = None; unauthorized_role = None }
+abbrev pub table : List ℕ → List Column → TableDef
+table name columns = record { name = name; columns = columns; key = 0 ∷ []; unique = []; max_rows = 1048576 }
+
+abbrev pub metadata : List TableDef → List RoleDef → Metadata
+metadata tables roles = record {
+  catalog = record { tables = tables };
+  links = map (λ (t : TableDef). []) tables;
+  roles = roles;
+  batch_size = 100;
+  refetch_ms = 1000;
+  secret = None;
+  unauthorized_role = None;
+}
+
+abbrev pub user : TableDef
+user = table (codes "user") (column (codes "id") kind.Int false ∷ column (codes "name") kind.Text true ∷ [])
+
+abbrev users : Metadata
+users = metadata (user ∷ []) []
 
 abbrev init : Event
-init = Receive 1 (Init [])
+init = Receive 1 (Init None)
 
 abbrev subscribes : List ℕ → Event
 subscribes id = Receive 1 (Subscribe id (record { query = codes "subscription { user { id name } }"; operation = None }))
 
-abbrev row : ℕ → List ℕ → Row
-row id name = val.Int (pos id) ∷ val.Text name ∷ []
+abbrev pub cell : List ℕ → Val → TxCell
+cell column value = record { column = column; value = value }
 
-abbrev ann : Transaction
-ann = Insert 0 (row 1 (codes "Ann")) ∷ []
+abbrev ann : List TxChange
+ann = Insert (codes "user") (cell (codes "id") (val.Big (pos 1)) ∷ cell (codes "name") (val.Text (codes "Ann")) ∷ []) ∷ []
 
-abbrev renames : List ℕ → Transaction
-renames name = Update 0 (val.Int (pos 1) ∷ []) (record { column = 1; value = val.Text name } ∷ []) ∷ []
+abbrev renames : List ℕ → List TxChange
+renames name = Update (codes "user") (cell (codes "id") (val.Big (pos 1)) ∷ []) (cell (codes "name") (val.Text name) ∷ []) ∷ []
 
 abbrev ack : ℕ → Queued
 ack c = record { connection = c; text = codes "{\"type\":\"connection_ack\"}" }
@@ -136,57 +161,3 @@ pub abandon_replies :
     replies users abandons ≡ Did ∷ Did ∷ Did ∷ Ticked 1 ∷ job 1 0 (1 ∷ []) ∷ Abandoned ∷ job 2 0 (1 ∷ []) ∷ NotOpen ∷ Published 0 ∷ Nobody ∷ []
 unfolding escape_byte
 abandon_replies = refl
-
--- posts, of which a reader sees its own
-abbrev post : Table
-post = record {
-  name = codes "post";
-  columns = codes "id" ∷ codes "author_id" ∷ codes "title" ∷ codes "note" ∷ [];
-  key = 0 ∷ [];
-  permissions = record { role = codes "reader"; columns = codes "id" ∷ codes "author_id" ∷ codes "title" ∷ []; filter = IsSession 1 (codes "x-hasura-user-id") } ∷ [];
-}
-
-abbrev posts : Meta
-posts = record { tables = user ∷ post ∷ []; batch_size = 100; secret = None; unauthorized_role = None }
-
-abbrev post_row : ℕ → ℕ → List ℕ → Row
-post_row id author title = val.Int (pos id) ∷ val.Int (pos author) ∷ val.Text title ∷ val.Null ∷ []
-
-abbrev reads : ℕ → List ℕ → List Event
-reads c user_id =
-    Connect c
-    ∷ Receive c (Init (record { name = codes "x-hasura-role"; value = codes "reader" } ∷ record { name = codes "X-Hasura-User-Id"; value = user_id } ∷ []))
-    ∷ Receive c (Subscribe (codes "p") (record { query = codes "subscription { post { id title } }"; operation = None })) ∷ []
-
-abbrev readers : List ℕ → List ℕ → List Event
-readers first second =
-    Commit (Insert 1 (post_row 1 1 (codes "x")) ∷ Insert 1 (post_row 2 2 (codes "y")) ∷ []) ∷ reads 1 first ++ reads 2 second ++ polls 1
-
-abbrev says_post : ℕ → List ℕ → Queued
-says_post c post_text = record { connection = c; text = codes "{\"type\":\"next\",\"id\":\"p\",\"payload\":{\"data\":{\"post\":[" ++ post_text ++ codes "]}}}" }
-
-abbrev first_post : List ℕ
-first_post = codes "{\"id\":1,\"title\":\"x\"}"
-
--- each of two users is told of the own rows alone
-pub two_users : told posts (readers (codes "1") (codes "2")) ≡ ack 1 ∷ ack 2 ∷ says_post 1 first_post ∷ says_post 2 (codes "{\"id\":2,\"title\":\"y\"}") ∷ []
-unfolding escape_byte digits
-two_users = refl
-
--- two cohorts of one poller are one job
-pub two_users_replies :
-    replies posts (readers (codes "1") (codes "2")) ≡
-    Committed 1 ∷ Did ∷ Did ∷ Did ∷ Did ∷ Did ∷ Did ∷ Ticked 2
-    ∷ Taken (record { number = 1; version = 1; members = record { subscription = 1; cohort = 1 } ∷ record { subscription = 2; cohort = 2 } ∷ [] }) ∷ Published 1 ∷ []
-unfolding escape_byte digits
-two_users_replies = refl
-
--- with equal variables they are one cohort
-pub equal_variables : told posts (readers (codes "1") (codes "1")) ≡ ack 1 ∷ ack 2 ∷ says_post 1 first_post ∷ says_post 2 first_post ∷ []
-unfolding escape_byte digits
-equal_variables = refl
-
-pub equal_variables_replies :
-    replies posts (readers (codes "1") (codes "1")) ≡ Committed 1 ∷ Did ∷ Did ∷ Did ∷ Did ∷ Did ∷ Did ∷ Ticked 2 ∷ job 1 1 (1 ∷ 2 ∷ []) ∷ Published 1 ∷ []
-unfolding escape_byte digits
-equal_variables_replies = refl

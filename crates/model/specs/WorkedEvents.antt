@@ -1,26 +1,31 @@
 -- Worked runs of the machine, which compute: phases and closes, streams, queries that are answered once, and jobs.
-use Rattle.std.specs.Prelude.{◌≡◌, ℕ, zero, suc, pos, refl, true, Option, Some, None, List, [], ◌∷◌, ◌++◌, length, map, codes}
+use Rattle.std.specs.Prelude.{◌≡◌, ℕ, zero, suc, pos, refl, true, false, Bool, Option, Some, None, List, [], ◌∷◌, ◌++◌, length, map, codes}
 use Rattle.std.specs.Fmt.{digits}
 use Rattle.std.specs.List.{flat_map}
 use Rattle.json.specs.Print.{escape_byte}
+use Rattle.serde_json.specs.Data.{Data, string, object, Members, no_members, member}
 use Rattle.scalar_val.specs.declared.val.Val.{Val}
 use Rattle.scalar_val.specs.declared.val.Val.TheVariants as val
-use Rattle.model.specs.Rows.{Insert, KeyTaken, Transaction, IsSession}
+use Rattle.scalar_val.specs.declared.val.Kind.TheVariants as kind
+use Rattle.data_model.specs.declared.transaction.TxChange.{TxChange}
+use Rattle.data_model.specs.declared.transaction.TxChange.TheVariants.{Insert, Update}
+use Rattle.data_model.specs.declared.transaction.Reason.{Reason}
+use Rattle.data_model.specs.declared.transaction.Reason.TheVariants.{NoTable, NoColumn, WrongKind, NullGiven, NoRow, KeyTaken, UniqueTaken, TableFull}
+use Rattle.role_model.specs.declared.metadata.Metadata.{Metadata}
+use Rattle.role_model.specs.declared.session.Session.{Session}
+use Rattle.role_model.specs.declared.session.Identity.TheVariants as identity
+use Rattle.role_model.specs.Sessions.{identity_of}
 use Rattle.model.specs.Queries.{Query, QueryKind, Once, Live, Stream, Word, QueryWord, SubscriptionWord, Columns}
-use Rattle.model.specs.Messages.{Header, Request, Init, Subscribe, Complete, Ping, Pong, Bad, CloseReason, Invalid, Unauthorized, Forbidden, InitTimeout, TooManyInits, Exists, exists_reason, reason}
-use Rattle.model.specs.Admission.{Meta, Session, Allowed, identity, header, Unread, admits}
+use Rattle.model.specs.Messages.{Init, Subscribe, Complete, Ping, Pong, Bad, CloseReason, Invalid, Unauthorized, Forbidden, InitTimeout, TooManyInits, Exists, exists_reason, reason}
+use Rattle.model.specs.Admission.{Unread, admits}
 use Rattle.model.specs.Built.{is_admitted}
-use Rattle.model.specs.State.{State, Event, Connect, Receive, Binary, Timeout, Gone, Commit, Tick, Take, Publish, Abandon, Drain, Report, Reply, ConnectionUnknown, ConnectionKnown, Did, Declined, Ticked, Nobody, Taken, NotOpen, Abandoned, Sent, Empty, Done, Reported, Queued, Close, Step, opening, Subscription, Connection, Acknowledged}
+use Rattle.model.specs.Worked.{column, table, metadata, cell}
+use Rattle.model.specs.State.{State, Event, Connect, Receive, Binary, Timeout, Gone, Commit, Tick, Take, Publish, Abandon, Drain, Report, Reply, ConnectionUnknown, ConnectionKnown, Did, Committed, Declined, Ticked, Nobody, Taken, NotOpen, Abandoned, Sent, Empty, Done, Reported, Queued, Close, Step, opening, Subscription, Connection, Acknowledged}
 use Rattle.model.specs.Run.{steps, steps_from}
 
 -- one table, of users
-abbrev users : Meta
-users = record {
-  tables = record { name = codes "user"; columns = codes "id" ∷ codes "name" ∷ []; key = 0 ∷ []; permissions = [] } ∷ [];
-  batch_size = 100;
-  secret = None;
-  unauthorized_role = None;
-}
+abbrev users : Metadata
+users = metadata (table (codes "user") (column (codes "id") kind.Int false ∷ column (codes "name") kind.Text true ∷ []) ∷ []) []
 
 abbrev replies : List Event → List Reply
 replies es = map (λ (s : Step). s.reply) (steps users es)
@@ -32,7 +37,7 @@ abbrev closes : List Event → List Close
 closes es = flat_map (λ (s : Step). s.closed) (steps users es)
 
 abbrev init : ℕ → Event
-init c = Receive c (Init [])
+init c = Receive c (Init None)
 
 abbrev asks : ℕ → List ℕ → Event
 asks c id = Receive c (Subscribe id (record { query = codes "subscription { user { id name } }"; operation = None }))
@@ -103,14 +108,39 @@ pub ping_is_answered :
     Did ∷ Did ∷ Did ∷ Did ∷ Sent (codes "{\"type\":\"pong\"}") ∷ Empty ∷ Did ∷ []
 ping_is_answered = refl
 
-abbrev user_of : ℕ → List ℕ → Transaction
-user_of id name = Insert 0 (val.Int (pos id) ∷ val.Text name ∷ []) ∷ []
+abbrev user_of : ℕ → List TxChange
+user_of id = Insert (codes "user") (cell (codes "id") (val.Big (pos id)) ∷ []) ∷ []
 
 -- a transaction with a change at fault changes nothing
 pub refused_transaction :
-    replies (Commit (user_of 1 [] ++ user_of 2 [] ++ user_of 1 []) ∷ Report ∷ []) ≡
-    Declined 3 KeyTaken ∷ Reported (record { connections = 0; live = 0; due = 0; jobs = 0; version = 0 }) ∷ []
+    replies (Commit (user_of 1 ++ user_of 2 ++ user_of 1) ∷ Report ∷ []) ≡
+    Declined (record { change = 3; reason = KeyTaken }) ∷ Reported (record { connections = 0; live = 0; due = 0; jobs = 0; version = 0 }) ∷ []
 refused_transaction = refl
+
+-- users of whom there may be one, and whose names are unique
+abbrev one_user : Metadata
+one_user = record users {
+  catalog = record { tables = record (table (codes "user") (column (codes "id") kind.Int false ∷ column (codes "name") kind.Text true ∷ [])) { unique = 1 ∷ []; max_rows = 1 } ∷ [] };
+}
+
+abbrev named : ℕ → List ℕ → TxChange
+named id name = Insert (codes "user") (cell (codes "id") (val.Big (pos id)) ∷ cell (codes "name") (val.Text name) ∷ [])
+
+abbrev refused : Reason → Reply
+refused reason = Declined (record { change = 1; reason = reason })
+
+-- each reason for which a change is refused
+pub each_reason :
+    map (λ (s : Step). s.reply)
+    (steps one_user
+    (Commit (named 1 (codes "Ann") ∷ []) ∷ Commit (named 2 (codes "Ann") ∷ []) ∷ Commit (user_of 2)
+    ∷ Commit (Update (codes "user") (cell (codes "id") (val.Big (pos 3)) ∷ []) [] ∷ []) ∷ Commit (Insert (codes "x") [] ∷ [])
+    ∷ Commit (Insert (codes "user") (cell (codes "age") (val.Big (pos 1)) ∷ cell (codes "id") (val.Big (pos 2)) ∷ []) ∷ [])
+    ∷ Commit (Insert (codes "user") (cell (codes "id") (val.Text (codes "a")) ∷ []) ∷ [])
+    ∷ Commit (Insert (codes "user") (cell (codes "name") (val.Text (codes "B")) ∷ []) ∷ []) ∷ Commit (user_of 1) ∷ Report ∷ [])) ≡
+    Committed 1 ∷ refused UniqueTaken ∷ refused TableFull ∷ refused NoRow ∷ refused NoTable ∷ refused NoColumn ∷ refused WrongKind ∷ refused NullGiven ∷ refused KeyTaken
+    ∷ Reported (record { connections = 0; live = 0; due = 0; jobs = 0; version = 1 }) ∷ []
+each_reason = refl
 
 -- A due subscription that ends is no longer due. An ended member's cohort is busy for as long as its job is open.
 pub ended_members_keep_a_cohort_busy :
@@ -133,15 +163,15 @@ abbrev subscription : ℕ → ℕ → List ℕ → Query → Val → Subscriptio
 subscription number c id query cursor = record { number = number; connection = c; id = id; query = query; cursor = cursor; live = true; last = None }
 
 abbrev connection : ℕ → Connection
-connection c = record { number = c; phase = Acknowledged (record { role = codes "admin"; variables = [] }); queue = [] }
+connection c = record { number = c; phase = Acknowledged (record { role = codes "admin"; vars = [] }); queue = [] }
 
 abbrev started : List Subscription → State
 started subs = record opening { connections = connection 1 ∷ connection 2 ∷ []; subscriptions = subs }
 
-abbrev replies_from : Meta → State → List Event → List Reply
+abbrev replies_from : Metadata → State → List Event → List Reply
 replies_from meta s es = map (λ (s : Step). s.reply) (steps_from meta s es)
 
-abbrev told_from : Meta → State → List Event → List Queued
+abbrev told_from : Metadata → State → List Event → List Queued
 told_from meta s es = flat_map (λ (s : Step). s.queued) (steps_from meta s es)
 
 -- one query that is answered once, and one live query of the same fields
@@ -151,7 +181,7 @@ once_and_live =
 
 -- A query that is answered once has its answer and `complete` in one publication, and is told nothing any more.
 pub once_is_answered_once :
-    told_from users once_and_live (Tick ∷ Take ∷ Take ∷ Publish 1 ∷ Publish 2 ∷ Commit (user_of 7 []) ∷ Tick ∷ Take ∷ Publish 3 ∷ []) ≡
+    told_from users once_and_live (Tick ∷ Take ∷ Take ∷ Publish 1 ∷ Publish 2 ∷ Commit (user_of 7) ∷ Tick ∷ Take ∷ Publish 3 ∷ []) ≡
     to 1 (codes "{\"type\":\"next\",\"id\":\"o\",\"payload\":{\"data\":{\"user\":[]}}}")
     ∷ to 1 (codes "{\"type\":\"complete\",\"id\":\"o\"}")
     ∷ to 2 (codes "{\"type\":\"next\",\"id\":\"l\",\"payload\":{\"data\":{\"user\":[]}}}")
@@ -160,7 +190,7 @@ pub once_is_answered_once :
 unfolding escape_byte digits
 once_is_answered_once = refl
 
-abbrev by_two : Meta
+abbrev by_two : Metadata
 by_two = record users { batch_size = 2 }
 
 -- Four cohorts of two pollers: 1, 3 and 5 ask for ids, from the cursors 0, 9 and 5, and 2 and 4 for names.
@@ -187,58 +217,54 @@ batches_are_cut = refl
 
 -- Who a client is
 
-abbrev header_of : List ℕ → List ℕ → Header
-header_of name value = record { name = name; value = value }
+abbrev headers : Members → Option Data
+headers ms = Some (object (member (codes "headers") (object ms) no_members))
 
-abbrev secret_is : Option (List ℕ) → Meta
+abbrev secret_is : Option (List ℕ) → Metadata
 secret_is role = record users { secret = Some (codes "s"); unauthorized_role = role }
 
-abbrev with_secret : List ℕ → List Header
-with_secret secret = header_of (codes "X-Hasura-Admin-Secret") secret ∷ header_of (codes "x-hasura-role") (codes "reader") ∷ []
+abbrev with_secret : List ℕ → Option Data
+with_secret secret = headers (member (codes "X-Hasura-Admin-Secret") (string secret) (member (codes "x-hasura-role") (string (codes "reader")) no_members))
 
 -- without the secret a client is refused, or has the role of the unauthorized and no variables
 pub wrong_secret : flat_map (λ (s : Step). s.closed) (steps (secret_is None) (Connect 1 ∷ Receive 1 (Init (with_secret (codes "t"))) ∷ [])) ≡ closed 1 Forbidden ∷ []
 wrong_secret = refl
 
-pub unauthorized_role : identity (secret_is (Some (codes "public"))) (with_secret (codes "t")) ≡ Allowed (record { role = codes "public"; variables = [] })
+pub unauthorized_role : identity_of (secret_is (Some (codes "public"))) (with_secret (codes "t")) ≡ identity.Allowed (record { role = codes "public"; vars = [] })
 unauthorized_role = refl
 
 -- the secret is no session variable
 pub right_secret :
-    identity (secret_is None) (with_secret (codes "s")) ≡ Allowed (record { role = codes "reader"; variables = header_of (codes "x-hasura-role") (codes "reader") ∷ [] })
+    identity_of (secret_is None) (with_secret (codes "s")) ≡ identity.Allowed (record { role = codes "reader"; vars = (codes "x-hasura-role", codes "reader") ∷ [] })
 right_secret = refl
 
--- of two spellings the one with lower-case letters is greater, wherever it stands
-pub greatest_spelling :
-    header (codes "x-hasura-user-id") (header_of (codes "x-hasura-user-id") (codes "2") ∷ header_of (codes "X-Hasura-User-Id") (codes "1") ∷ []) ≡ Some (codes "2")
-greatest_spelling = refl
+-- without a payload and without a secret everybody is an administrator
+pub administrator : identity_of users None ≡ identity.Allowed (record { role = codes "admin"; vars = [] })
+administrator = refl
 
--- What isn't read so far isn't admitted by mistake: a session variable that is no number, and an operation's name.
+-- What isn't read so far isn't admitted by mistake
 
-abbrev own : Meta
-own = record users {
-  tables = record {
-    name = codes "user";
-    columns = codes "id" ∷ codes "name" ∷ [];
-    key = 0 ∷ [];
-    permissions = record { role = codes "reader"; columns = codes "id" ∷ []; filter = IsSession 0 (codes "x-hasura-user-id") } ∷ [];
-  } ∷ [];
-}
+abbrev admin : Session
+admin = record { role = codes "admin"; vars = [] }
 
-abbrev reader : List ℕ → Session
-reader user_id = record { role = codes "reader"; variables = header_of (codes "X-Hasura-User-Id") user_id ∷ [] }
+abbrev asked : List ℕ → Option (List ℕ) → Bool
+asked query operation = is_admitted (admits users admin (record { query = query; operation = operation }))
 
-abbrev ids : Option (List ℕ) → Request
-ids operation = record { query = codes "subscription { user { id } }"; operation = operation }
+pub columns_are_read : asked (codes "subscription { user { name id } }") None ≡ true
+columns_are_read = refl
 
-pub number_is_read : is_admitted (admits own (reader (codes "007")) (ids None)) ≡ true
-number_is_read = refl
-
-pub sign_is_not_read : admits own (reader (codes "-1")) (ids None) ≡ Unread
-sign_is_not_read = refl
-
-pub word_is_not_read : admits own (reader (codes "x")) (ids None) ≡ Unread
-word_is_not_read = refl
-
-pub name_is_not_read : admits own (reader (codes "1")) (ids (Some (codes "Feed"))) ≡ Unread
+pub name_is_not_read : asked (codes "subscription { user { name id } }") (Some (codes "Feed")) ≡ false
 name_is_not_read = refl
+
+pub repeated_column_is_not_read : asked (codes "subscription { user { id id } }") None ≡ false
+repeated_column_is_not_read = refl
+
+pub unknown_column_is_not_read : asked (codes "subscription { user { id age } }") None ≡ false
+unknown_column_is_not_read = refl
+
+pub unknown_table_is_not_read : asked (codes "subscription { post { id } }") None ≡ false
+unknown_table_is_not_read = refl
+
+-- a role that no permission names sees nothing
+pub unseen_table_is_not_read : admits users (record { role = codes "reader"; vars = [] }) (record { query = codes "subscription { user { id } }"; operation = None }) ≡ Unread
+unseen_table_is_not_read = refl

@@ -1,38 +1,56 @@
-use Rattle.std.proofs.Common.{◌≡◌, ℕ, zero, suc, ◌+◌, ◌^◌, ◌<◌, ◌≤◌, Bool, true, false, ltb, if◌then◌else◌, Some, None, List, [], ◌∷◌, get_or, length, take, drop, refl, ap, sym, ◌∙◌, ◌==◌, arith}
-use Rattle.std.specs.Bool.{MatchBool}
-use Rattle.std.specs.List.{position, position_or_len}
-use Rattle.std.specs.Str.{IsAscii, IsNotAscii}
-use Rattle.model.specs.Admission.{Meta}
-use Rattle.model.specs.Forms.{read_message}
-use Rattle.model.specs.Script.{is_ascii, is_space, read_receive, receive_line, read_number, read_line, read_event, Passed}
-use Rattle.script_text.proofs.Choices.{first_false, second_false, both_true, below_true, below_false, differs}
-use Rattle.script_text.proofs.Pieces.{some_at}
-
-is_ascii-true : (bs : List ℕ) → IsAscii bs → true ≡ is_ascii bs
-is_ascii-true [] h = refl
-is_ascii-true (b ∷ bs) h = sym (both_true (ltb b 128) (is_ascii bs) (below_true b 128 (h 0)) (sym (is_ascii-true bs (λ i. h (suc i)))))
-
-not_ascii_at : (bs : List ℕ) (i : ℕ) → 128 ≤ get_or bs i 0 → is_ascii bs ≡ false
-not_ascii_at [] i h = absurd (omega arith)
-not_ascii_at (b ∷ bs) zero h = first_false (ltb b 128) (is_ascii bs) (below_false b 128 h)
-not_ascii_at (b ∷ bs) (suc i) h = second_false (ltb b 128) (is_ascii bs) (not_ascii_at bs i h)
-
--- the test of std is that of the definition
-pub is_ascii-value : (bs : List ℕ) (r : Bool) → MatchBool r (IsAscii bs) (IsNotAscii bs) → r ≡ is_ascii bs
-is_ascii-value bs true h = is_ascii-true bs h
-is_ascii-value bs false h = sym (not_ascii_at bs h.0 h.1)
-
--- a message's connection and text stand around the first space
-pub receive_parts : (text : List ℕ) (n : ℕ) → position is_space text ≡ Some n → read_receive text ≡ receive_line (read_number (2 ^ 32) (take n text)) (read_message (drop (n + 1) text))
-receive_parts text n h =
-    let e : position_or_len is_space text ≡ n = (some_at (position_or_len is_space text) (length text) n h).1 in
-    ap (λ m. receive_line (read_number (2 ^ 32) (take m text)) (read_message (drop (m + 1) text))) e
+use Rattle.std.proofs.Common.{◌≡◌, ℕ, suc, IsUtf8, ⊎_elim, ◌+◌, ◌^◌, ◌<◌, Bool, true, false, not, ◌||◌, cond, if◌then◌else◌, Option, Some, None, option_map, List, [], ◌∷◌, get_or, length, drop, ap, refl, sym, subst, ◌∙◌, ◌==◌, MatchOption, Bor, arith}
+use Rattle.std.specs.List.{position_or_len, list_any, starts_with, before_first, after_first}
+use Rattle.std.specs.Str.{is_utf8, IsCharBoundary}
+use Rattle.std.specs.Str.Pattern.{FindsTextPrefix, StripsPrefix}
+use Rattle.std.proofs.lemmas.Str.Pattern.{starts_text}
+use Rattle.std.proofs.lemmas.Bool.{cases_Bool}
+use Rattle.std.proofs.lemmas.Str.{IsUtf8-from_is_utf8}
+use Rattle.model.specs.Script.{Line, Passed, Receive, read_line, read_form, read_number, of_text, is_space}
+use Rattle.script_text.proofs.Choices.{differs}
 
 -- a line that isn't empty
-pub read_line-cons : (meta : Meta) (text : List ℕ) → 0 < length text → read_line meta text ≡ (if get_or text 0 0 == 35 then Some Passed else (if is_ascii text then read_event meta text else None))
-read_line-cons meta [] h = absurd (omega arith)
-read_line-cons meta (b ∷ bs) h = refl
+pub read_line-cons : (text : List ℕ) → 0 < length text → read_line text ≡ (if get_or text 0 0 == 35 then Some Passed else (if is_utf8 text then read_form text else None))
+read_line-cons [] h = absurd (omega arith)
+read_line-cons (b ∷ bs) h = refl
 
-pub read_line-event : (meta : Meta) (text : List ℕ) → 0 < length text → (get_or text 0 0 ≡ 35 → ⊥) → true ≡ is_ascii text → read_line meta text ≡ read_event meta text
-read_line-event meta text h k a =
-    read_line-cons meta text h ∙ ap (λ b. if b then Some Passed else (if is_ascii text then read_event meta text else None)) (differs (get_or text 0 0) 35 k) ∙ ap (λ b. if b then read_event meta text else None) (sym a)
+-- a line that is no comment
+pub read_line-other : (text : List ℕ) (b : Bool) → 0 < length text → (get_or text 0 0 ≡ 35 → ⊥) → is_utf8 text ≡ b → read_line text ≡ (if b then read_form text else None)
+read_line-other text b h k u =
+    read_line-cons text h ∙ ap (λ c. if c then Some Passed else (if is_utf8 text then read_form text else None)) (differs (get_or text 0 0) 35 k) ∙ ap (λ c. if c then read_form text else None) u
+
+-- `strip_prefix` at a text, in the words of lists
+pub stripped : (start text : List ℕ) (r : Option (Bor (List ℕ))) → MatchOption r (FindsTextPrefix start text None) (λ x. StripsPrefix (FindsTextPrefix start) text x.now) → MatchOption r (starts_with ◌==◌ text start ≡ false) (λ rest. (starts_with ◌==◌ text start ≡ true) × (rest.now ≡ drop (length start) text))
+stripped start text None h = sym (starts_text false start text h)
+stripped start text (Some x) h =
+    let found = h.1 in
+    (sym (starts_text true start text (h.0, found, subst (λ n. IsCharBoundary text n) (sym found.0) found.2)), h.2 ∙ ap (λ n. drop n text) found.0)
+
+first_passes : (b a : Bool) (m n : ℕ) → cond (not b) (1 + m) 0 ≡ suc n → (m ≡ n → a ≡ false) → (b || a) ≡ false
+first_passes true a m n h k = absurd (omega arith)
+first_passes false a m n h k = k (omega arith)
+
+none_passes : (p : ℕ → Bool) (xs : List ℕ) → position_or_len p xs ≡ length xs → list_any p xs ≡ false
+none_passes p [] h = refl
+none_passes p (x ∷ xs) h = first_passes (p x) (list_any p xs) (position_or_len p xs) (length xs) h (none_passes p xs)
+
+first_fails : (b a : Bool) (m n : ℕ) → cond (not b) (1 + m) 0 < suc n → (m < n → a ≡ true) → (b || a) ≡ true
+first_fails true a m n h k = refl
+first_fails false a m n h k = k (omega arith)
+
+some_passes : (p : ℕ → Bool) (xs : List ℕ) → position_or_len p xs < length xs → list_any p xs ≡ true
+some_passes p [] h = absurd (omega arith)
+some_passes p (x ∷ xs) h = first_fails (p x) (list_any p xs) (position_or_len p xs) (length xs) h (some_passes p xs)
+
+abbrev parts : List ℕ → Option Line
+parts text = option_map (λ c. Receive c (after_first is_space text)) (read_number (2 ^ 32) (before_first is_space text))
+
+-- a text without a space
+pub no_text : (text : List ℕ) → position_or_len is_space text ≡ length text → of_text text ≡ None
+no_text text h = ap (λ b. if b then parts text else None) (none_passes is_space text h)
+
+-- a text with a space
+pub some_text : (text : List ℕ) → position_or_len is_space text < length text → of_text text ≡ option_map (λ c. Receive c (after_first is_space text)) (read_number (2 ^ 32) (before_first is_space text))
+some_text text h = ap (λ b. if b then parts text else None) (some_passes is_space text h)
+
+pub not_utf8 : (text : List ℕ) → ¬ (IsUtf8 text) → is_utf8 text ≡ false
+not_utf8 text h = ⊎_elim (λ e. absurd (h (IsUtf8-from_is_utf8 text e))) (λ e. e) (cases_Bool (is_utf8 text))

@@ -1,25 +1,38 @@
--- What a line that was read says to the machine. This project's own.
-use Rattle.std.specs.Prelude.{Option, Some, None}
-use Rattle.model.specs.Admission.{Meta}
-use Rattle.model.specs.State.{Connect}
-use Rattle.model.specs.Forms.{read_message}
+-- What a line that was read says. This project's own.
+use Rattle.std.specs.Prelude.{◌≡◌, ℕ, List}
 use Rattle.model.specs.Script as script
-use Rattle.model.specs.Script.{receive_line, read_commit}
 use Rattle.script_text.specs.declared.line.Line.{Line}
 use Rattle.script_text.specs.declared.line.Line.TheVariants as line
 use Rattle.script_text.specs.declared.transcript.ScriptReason.{ScriptReason}
 use Rattle.script_text.specs.declared.transcript.ScriptReason.TheVariants as reason
 
--- A message's text and a transaction's text are given as they stand: what they say is read from them.
-abbrev pub line_of : Meta → Line → Option script.Line
-line_of meta line.Passed = Some script.Passed
-line_of meta line.Poll = Some script.Poll
-line_of meta (line.Connect conn) = Some (script.Act (Connect conn))
-line_of meta (line.Receive conn text) = receive_line (Some conn) (read_message text.now)
-line_of meta (line.Commit text) = read_commit meta.tables text.now
-line_of meta line.Unbuilt = None
+abbrev pub line_of : Line → script.Line
+line_of line.Passed = script.Passed
+line_of (line.Open conn) = script.Open conn
+line_of (line.Receive conn text) = script.Receive conn text.now
+line_of (line.Binary conn) = script.Binary conn
+line_of (line.Timeout conn) = script.Timeout conn
+line_of (line.Gone conn) = script.Gone conn
+line_of (line.Commit text) = script.Commit text.now
+line_of line.Tick = script.Tick
+line_of line.Take = script.Take
+line_of (line.Publish job) = script.Publish job
+line_of (line.Abandon job) = script.Abandon job
+line_of (line.Drain conn) = script.Drain conn
+line_of line.Report = script.Report
+line_of line.Poll = script.Poll
 
 abbrev pub reason_of : ScriptReason → script.Reason
 reason_of reason.Cut = script.Cut
 reason_of reason.Size = script.Size
+reason_of (reason.Metadata fault) = script.BadMetadata fault
+reason_of reason.NotEvent = script.NotEvent
+reason_of reason.Transaction = script.NotTransaction
+reason_of reason.Known = script.Known
+reason_of reason.Unknown = script.Unknown
 reason_of reason.Unbuilt = script.Unbuilt
+
+-- the one word of a reason, but for a fault of the metadata, which has two
+abbrev pub IsWordOf : ScriptReason → List ℕ → Type 0
+IsWordOf (reason.Metadata fault) word = Unit {0}
+IsWordOf r word = word ≡ script.reason_text (reason_of r)

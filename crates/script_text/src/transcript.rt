@@ -1,17 +1,19 @@
 ghost use Rattle.std.specs.Prelude.{◌≡◌, ◌++◌, ◌∷◌, [], Some, List, length, map, OnOk, decimal};
 ghost use Rattle.std.specs.List.{flat_map};
-ghost use Rattle.model.specs.Rows.{Transaction};
+ghost use Rattle.data_model.specs.declared.transaction.TxChange.{TxChange};
 ghost use Rattle.model.specs.Messages.{Message};
 ghost use Rattle.model.specs.State as state;
-ghost use Rattle.model.specs.Transcript.{numbered, queued_line};
+ghost use Rattle.model.specs.Transcript.{numbered, queued_line, refusal_name};
 ghost use Rattle.model.specs.Transcript as transcript;
-ghost use Rattle.model.specs.Script.{fault_line};
+ghost use Rattle.model.specs.Script.{fault_line, fault_name, reason_text};
 ghost use Rattle.model.specs.Shown.{queued_of};
-ghost use Rattle.script_text.specs.Said.{reason_of};
+ghost use Rattle.script_text.specs.Said.{reason_of, IsWordOf};
 ghost use Rattle.script_text.specs.Told.{Tells};
 
+use data_model::{Reason, TxFault};
 use itoa::Buffer;
 use model::{Queued, QueuedList};
+use role_model::MetaFault;
 use scalar_val::NoMemory;
 
 /// Why a script ends before its end.
@@ -21,7 +23,17 @@ pub enum ScriptReason {
     Cut,
     /// It has more bytes than a script may have.
     Size,
-    /// A line, or the metadata, is of a form that isn't built so far.
+    /// The metadata has this fault, which is its first one.
+    Metadata(MetaFault),
+    /// The line is none of the forms of a script, or isn't UTF-8.
+    NotEvent,
+    /// The text of a `commit` is no transaction.
+    Transaction,
+    /// `open` of a connection that is known.
+    Known,
+    /// An event on a connection that isn't known.
+    Unknown,
+    /// The line is of a form that isn't built so far.
     Unbuilt,
 }
 
@@ -44,10 +56,35 @@ pub fn write_recv(out: &mut Vec<u8>, conn: u32, queued: &QueuedList) -> Result<(
 
 /// Appends the transcript of an accepted commit, with the new version.
 pub fn write_commit(out: &mut Vec<u8>, version: u64) -> Result<(), NoMemory>
-    ensures { OnOk result ((tx : Transaction) → Tells (state.Commit tx) (state.Committed version) [] out.old.items out.new.items) }
+    ensures { OnOk result ((tx : List TxChange) → Tells (state.Commit tx) (state.Committed version) [] out.old.items out.new.items) }
 {
     write_number(out, b"commit", version)?;
     end_line(out)
+}
+
+/// Appends the transcript of a refused commit: the number of the change that was refused, from 1, and the reason's name.
+pub fn write_refused(out: &mut Vec<u8>, fault: TxFault) -> Result<(), NoMemory>
+    ensures { OnOk result ((tx : List TxChange) → Tells (state.Commit tx) (state.Declined fault) [] out.old.items out.new.items) }
+{
+    write_number(out, b"refused", fault.change)?;
+    out.push(b' ')?;
+    out.extend_from_slice(refusal_name(fault.reason))?;
+    end_line(out)
+}
+
+fn refusal_name(reason: Reason) -> &'static [u8]
+    ensures { result.now ≡ refusal_name reason }
+{
+    match reason {
+        Reason::NoTable => b"NoTable",
+        Reason::NoColumn => b"NoColumn",
+        Reason::WrongKind => b"WrongKind",
+        Reason::NullGiven => b"NullGiven",
+        Reason::NoRow => b"NoRow",
+        Reason::KeyTaken => b"KeyTaken",
+        Reason::UniqueTaken => b"UniqueTaken",
+        Reason::TableFull => b"TableFull",
+    }
 }
 
 /// Appends the transcript of a tick, with the count of those that are due.
@@ -94,12 +131,56 @@ pub fn write_fault(out: &mut Vec<u8>, line: u64, reason: ScriptReason) -> Result
     ensures { OnOk result (out.new.items ≡ out.old.items ++ fault_line (Some (line, reason_of reason))) }
 {
     write_number(out, b"fault", line)?;
-    out.extend_from_slice(match reason {
-        ScriptReason::Cut => b" cut\n",
-        ScriptReason::Size => b" size\n",
-        ScriptReason::Unbuilt => b" unbuilt\n",
-    })?;
+    out.push(b' ')?;
+    write_reason(out, reason)?;
+    end_line(out)
+}
+
+fn write_reason(out: &mut Vec<u8>, reason: ScriptReason) -> Result<(), NoMemory>
+    ensures { OnOk result (out.new.items ≡ out.old.items ++ reason_text (reason_of reason)) }
+{
+    if let ScriptReason::Metadata(fault) = reason {
+        out.extend_from_slice(b"metadata ")?;
+        out.extend_from_slice(fault_name(fault))?;
+        return Ok(());
+    }
+    out.extend_from_slice(reason_word(reason))?;
     Ok(())
+}
+
+/// The reasons that are one word.
+fn reason_word(reason: ScriptReason) -> &'static [u8]
+    ensures { IsWordOf reason result.now }
+{
+    match reason {
+        ScriptReason::Cut => b"cut",
+        ScriptReason::Size => b"size",
+        ScriptReason::Metadata(_) => b"metadata",
+        ScriptReason::NotEvent => b"event",
+        ScriptReason::Transaction => b"transaction",
+        ScriptReason::Known => b"known",
+        ScriptReason::Unknown => b"unknown",
+        ScriptReason::Unbuilt => b"unbuilt",
+    }
+}
+
+fn fault_name(fault: MetaFault) -> &'static [u8]
+    ensures { result.now ≡ fault_name fault }
+{
+    match fault {
+        MetaFault::TooLong => b"TooLong",
+        MetaFault::Toml => b"Toml",
+        MetaFault::BadForm => b"BadForm",
+        MetaFault::BadVersion => b"BadVersion",
+        MetaFault::TooMany => b"TooMany",
+        MetaFault::BadName => b"BadName",
+        MetaFault::Duplicate => b"Duplicate",
+        MetaFault::NoTable => b"NoTable",
+        MetaFault::NoColumn => b"NoColumn",
+        MetaFault::BadKind => b"BadKind",
+        MetaFault::BadRole => b"BadRole",
+        MetaFault::BadFilter => b"BadFilter",
+    }
 }
 
 /// A word, a space and a number.

@@ -1,11 +1,12 @@
 -- What a line does to the progress of a script.
-use Rattle.std.proofs.Common.{◌≡◌, ◌∙◌, ◌≤◌, ◌<◌, ◌+◌, ◌*◌, arith, sym, ap, subst, refl, ℕ, Bool, true, if◌then◌else◌, Option, Some, None, List, [], ◌∷◌, ◌++◌, length, append-nil}
+use Rattle.std.proofs.Common.{◌≡◌, ◌∙◌, ◌≤◌, ◌<◌, ◌+◌, ◌*◌, arith, sym, ap, subst, refl, ℕ, Bool, true, if◌then◌else◌, Result, Ok, Err, List, [], ◌∷◌, ◌++◌, length, append-nil}
 use Rattle.std.specs.Prelude.{codes}
 use Rattle.model.specs.Values.{same_text}
-use Rattle.model.specs.Admission.{Meta}
+use Rattle.role_model.specs.declared.metadata.Metadata.{Metadata}
 use Rattle.model.specs.State.{Event, opening}
 use Rattle.model.specs.Run.{run}
-use Rattle.model.specs.Forms.{read_metadata}
+use Rattle.role_model.specs.declared.metadata.MetaFault.{MetaFault}
+use Rattle.role_model.specs.MetadataFaults.{metadata_of}
 use Rattle.model.specs.Script.{Reading, Heading, Running, Took, Went, Faulty, begin, act, read_line, take_line, limit}
 use Rattle.hub.specs.State.{Kept}
 use Rattle.hub.specs.Stands.{StandsFor}
@@ -26,39 +27,35 @@ advances_by (taken.Faulty r) (Went reading text) k k' n before after h few bound
 advances_by (taken.Faulty r) (Faulty other) k k' n before after h few bounded ran = ran
 advances_by taken.NoMemory took k k' n before after h few bounded ran = tt
 
-pub running_advances : (t : Taken) (p : Progress) (k k' : Kept) (n : ℕ) (line : List ℕ) (reading : Reading) (before after : List ℕ) → p ≡ progress.Running k → n < limit → StandsAt p n reading → ((h : List Event) → StandsFor k h → LineRan t (act k.meta (run k.meta h) (read_line k.meta line)) k k' before after) → Advances t (take_line reading line) (progress.Running k') (n + 1) before after
+pub running_advances : (t : Taken) (p : Progress) (k k' : Kept) (n : ℕ) (line : List ℕ) (reading : Reading) (before after : List ℕ) → p ≡ progress.Running k → n < limit → StandsAt p n reading → ((h : List Event) → StandsFor k h → LineRan t (act k.meta (run k.meta h) (read_line line)) k k' before after) → Advances t (take_line reading line) (progress.Running k') (n + 1) before after
 running_advances t p k k' n line reading before after is h st ran =
     let r : IsRunning k n reading = subst (λ (q : Progress). StandsAt q n reading) is st in
     subst (λ (x : Reading). Advances t (take_line x line) (progress.Running k') (n + 1) before after) (sym r.is)
-    (advances_by t (act k.meta (run k.meta r.history) (read_line k.meta line)) k k' n before after h r.few r.bounded (ran r.history r.stands))
+    (advances_by t (act k.meta (run k.meta r.history) (read_line line)) k k' n before after h r.few r.bounded (ran r.history r.stands))
 
 -- The metadata's end
 
-begun_at : (m : Option Meta) (k : Kept) (n : ℕ) (before : List ℕ) → Begins m (Some k) → Advances taken.Went (begin m) (progress.Running k) (n + 1) before before
-begun_at (Some meta) k n before b = (
+begun_at : (m : Result Metadata MetaFault) (k : Kept) (n : ℕ) (before : List ℕ) → Begins m k → Advances taken.Went (begin m) (progress.Running k) (n + 1) before before
+begun_at (Ok meta) k n before b = (
   record {
     history = [];
     stands = b.stands;
-    is = ap (λ (x : Meta). Running x opening) (sym b.meta_is);
+    is = ap (λ (x : Metadata). Running x opening) (sym b.meta_is);
     few = omega (arith, kept_subs k [] b.stands);
     bounded = omega (arith, b.events);
   },
   sym (append-nil before),
 )
-begun_at None k n before b = absurd b
+begun_at (Err fault) k n before b = absurd b
 
-not_begun_at : (m : Option Meta) (p : Progress) (n : ℕ) (before : List ℕ) → Begins m None → Advances (taken.Faulty reason.Unbuilt) (begin m) p n before before
-not_begun_at (Some meta) p n before b = b
-not_begun_at None p n before b = refl
-
-pub ends_heading : (reading : Reading) (metadata line : List ℕ) → reading ≡ Heading metadata → same_text line (codes "---") ≡ true → take_line reading line ≡ begin (read_metadata metadata)
+pub ends_heading : (reading : Reading) (metadata line : List ℕ) → reading ≡ Heading metadata → same_text line (codes "---") ≡ true → take_line reading line ≡ begin (metadata_of metadata)
 ends_heading reading metadata line e same =
-    ap (λ (x : Reading). take_line x line) e ∙ ap (λ (b : Bool). if b then begin (read_metadata metadata) else Went (Heading (metadata ++ line ++ 10 ∷ [])) []) same
+    ap (λ (x : Reading). take_line x line) e ∙ ap (λ (b : Bool). if b then begin (metadata_of metadata) else Went (Heading (metadata ++ line ++ 10 ∷ [])) []) same
 
-pub begins : (reading : Reading) (metadata line : List ℕ) (k : Kept) (n : ℕ) (before : List ℕ) → reading ≡ Heading metadata → same_text line (codes "---") ≡ true → Begins (read_metadata metadata) (Some k) → Advances taken.Went (take_line reading line) (progress.Running k) (n + 1) before before
+pub begins : (reading : Reading) (metadata line : List ℕ) (k : Kept) (n : ℕ) (before : List ℕ) → reading ≡ Heading metadata → same_text line (codes "---") ≡ true → Begins (metadata_of metadata) k → Advances taken.Went (take_line reading line) (progress.Running k) (n + 1) before before
 begins reading metadata line k n before e same b =
-    subst (λ (t : Took). Advances taken.Went t (progress.Running k) (n + 1) before before) (sym (ends_heading reading metadata line e same)) (begun_at (read_metadata metadata) k n before b)
+    subst (λ (t : Took). Advances taken.Went t (progress.Running k) (n + 1) before before) (sym (ends_heading reading metadata line e same)) (begun_at (metadata_of metadata) k n before b)
 
-pub begins_not : (reading : Reading) (metadata line : List ℕ) (p : Progress) (n : ℕ) (before : List ℕ) → reading ≡ Heading metadata → same_text line (codes "---") ≡ true → Begins (read_metadata metadata) None → Advances (taken.Faulty reason.Unbuilt) (take_line reading line) p n before before
-begins_not reading metadata line p n before e same b =
-    subst (λ (t : Took). Advances (taken.Faulty reason.Unbuilt) t p n before before) (sym (ends_heading reading metadata line e same)) (not_begun_at (read_metadata metadata) p n before b)
+pub begins_not : (reading : Reading) (metadata line : List ℕ) (fault : MetaFault) (p : Progress) (n : ℕ) (before : List ℕ) → reading ≡ Heading metadata → same_text line (codes "---") ≡ true → metadata_of metadata ≡ Err fault → Advances (taken.Faulty (reason.Metadata fault)) (take_line reading line) p n before before
+begins_not reading metadata line fault p n before e same b =
+    subst (λ (t : Took). Advances (taken.Faulty (reason.Metadata fault)) t p n before before) (sym (ends_heading reading metadata line e same ∙ ap begin b)) refl

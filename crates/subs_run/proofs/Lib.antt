@@ -1,6 +1,7 @@
 pub mod Advances
 pub mod Events
 pub mod Feeds
+pub mod Known
 pub mod Lines
 pub mod Machine
 pub mod Outcomes

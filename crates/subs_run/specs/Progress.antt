@@ -1,6 +1,7 @@
 -- How far a script is, and what a line does to it. This project's own.
-use Rattle.std.specs.Prelude.{◌≡◌, ℕ, ◌*◌, ◌<◌, ◌≤◌, Option, Some, None, List, [], ◌++◌, length}
-use Rattle.model.specs.Admission.{Meta}
+use Rattle.std.specs.Prelude.{◌≡◌, ℕ, ◌*◌, ◌<◌, ◌≤◌, Result, Ok, Err, List, [], ◌++◌, length}
+use Rattle.role_model.specs.declared.metadata.Metadata.{Metadata}
+use Rattle.role_model.specs.declared.metadata.MetaFault.{MetaFault}
 use Rattle.model.specs.State.{Event}
 use Rattle.model.specs.Run.{run}
 use Rattle.model.specs.Script.{Reading, Heading, Running, Took, Went, Faulty, limit}
@@ -42,16 +43,15 @@ Advances (taken.Faulty reason) (Faulty other) after number before now = other �
 Advances taken.NoMemory took after number before now = Unit {0}
 
 -- the hub of metadata that was read, to which nothing has happened
-pub record IsNew (meta : Meta) (k : Kept) : Type 0 where
+pub record IsNew (meta : Metadata) (k : Kept) : Type 0 where
   pub meta_is : k.meta ≡ meta
   pub stands : StandsFor k []
   pub events : k.events ≡ 0
 
-abbrev pub Begins : Option Meta → Option Kept → Type 0
-Begins (Some meta) (Some k) = IsNew meta k
-Begins (Some meta) None = ⊥
-Begins None (Some k) = ⊥
-Begins None None = Unit {0}
+-- metadata without a fault begins such a hub
+abbrev pub Begins : Result Metadata MetaFault → Kept → Type 0
+Begins (Ok meta) k = IsNew meta k
+Begins (Err fault) k = ⊥
 
 abbrev pub IfWent : Taken → Type 0 → Type 0
 IfWent taken.Went p = p

@@ -1,22 +1,23 @@
-ghost use Rattle.std.specs.Prelude.{◌≡◌, ◌+◌, ◌*◌, ◌^◌, ◌<◌, Some, List, length};
+ghost use Rattle.std.specs.Prelude.{◌≡◌, ◌+◌, ◌*◌, ◌^◌, ◌<◌, List, ℕ, length};
+ghost use Rattle.data_model.specs.Form.{transaction};
 ghost use Rattle.model.specs.State.{Event, Connect, Commit};
 ghost use Rattle.model.specs.Run.{run};
 ghost use Rattle.model.specs.Forms.{read_message};
-ghost use Rattle.model.specs.Script.{Poll, Act, act, read_line, read_commit, receive_line};
-ghost use Rattle.model.specs.Shown.{transaction_of};
+ghost use Rattle.model.specs.Script.{Open, Poll, Faulty, Unbuilt, act, acts, commits, on_known, opens, read_line, receives, serves};
 ghost use Rattle.hub.specs.Stands.{StandsFor};
+ghost use Rattle.script_text.specs.Said.{line_of};
 ghost use Rattle.subs_run.specs.Events.{LineRan, IsWent};
 
 use crate::poll::poll;
 use crate::taken::Taken;
 use hub::{CommitReply, ConnReply, Hub};
-use model::Tx;
 use scalar_val::{NoMemory, Steps};
 use script_text::{
-    Line, ScriptReason, read_line, read_transaction, write_commit, write_open, write_recv,
+    Line, ScriptReason, read_line, write_commit, write_open, write_recv, write_refused,
 };
 use std::alloc::Global;
 use std::sync::ledger::Ledger;
+use tx_apply::{Tx, TxTextFault, read_tx};
 
 /// Runs one line behind the metadata, and appends its transcript.
 pub(crate) fn run_line<L: Ledger>(
@@ -28,24 +29,66 @@ pub(crate) fn run_line<L: Ledger>(
 ) -> Taken
     requires stands { (h : List Event) × StandsFor hub.old h }
     requires few { hub.old.events + 1 + 2 * length hub.old.subscriptions < 2 ^ 62 }
-    ensures { (h : List Event) → StandsFor hub.old h → LineRan result (act hub.old.meta (run hub.old.meta h) (read_line hub.old.meta line.now)) hub.old hub.new out.old.items out.new.items }
+    ensures { (h : List Event) → StandsFor hub.old h → LineRan result (act hub.old.meta (run hub.old.meta h) (read_line line.now)) hub.old hub.new out.old.items out.new.items }
 {
     match read_line(line) {
-        Line::Passed => Taken::Went,
-        Line::Poll => run_poll(hub, alloc, out),
-        Line::Connect(conn) => run_open(hub, alloc, conn, out),
-        Line::Receive { conn, text } => run_recv(hub, alloc, conn, text, out),
-        Line::Commit(text) => run_commit(hub, alloc, text, out, steps),
-        Line::Unbuilt => Taken::Faulty(ScriptReason::Unbuilt),
+        Some(line) => run_form(hub, alloc, line, out, steps),
+        None => Taken::Faulty(ScriptReason::NotEvent),
     }
 }
 
-fn run_poll(hub: &mut Hub, alloc: Global, out: &mut Vec<u8>) -> Taken
+/// Runs a line of one of the forms. So far `open`, `recv`, `commit` and `poll` are built.
+fn run_form<L: Ledger>(
+    hub: &mut Hub,
+    alloc: Global,
+    line: Line<'_>,
+    out: &mut Vec<u8>,
+    steps: &mut Steps<L>,
+) -> Taken
     requires stands { (h : List Event) × StandsFor hub.old h }
     requires few { hub.old.events + 1 + 2 * length hub.old.subscriptions < 2 ^ 62 }
-    ensures { (h : List Event) → StandsFor hub.old h → LineRan result (act hub.old.meta (run hub.old.meta h) (Some Poll)) hub.old hub.new out.old.items out.new.items }
+    ensures { (h : List Event) → StandsFor hub.old h → LineRan result (acts hub.old.meta (run hub.old.meta h) (line_of line.entry)) hub.old hub.new out.old.items out.new.items }
 {
-    match poll(hub, alloc, out) {
+    match line {
+        Line::Passed => Taken::Went,
+        Line::Open(conn) => run_open(hub, alloc, conn, out),
+        Line::Receive { conn, text } => run_recv(hub, alloc, conn, text, out),
+        Line::Commit(text) => run_commit(hub, alloc, text, out, steps),
+        Line::Poll => run_poll(hub, alloc, out, steps),
+        Line::Binary(conn) => unbuilt_on(hub, conn),
+        Line::Timeout(conn) => unbuilt_on(hub, conn),
+        Line::Gone(conn) => unbuilt_on(hub, conn),
+        Line::Drain(conn) => unbuilt_on(hub, conn),
+        Line::Tick => Taken::Faulty(ScriptReason::Unbuilt),
+        Line::Take => Taken::Faulty(ScriptReason::Unbuilt),
+        Line::Publish(_) => Taken::Faulty(ScriptReason::Unbuilt),
+        Line::Abandon(_) => Taken::Faulty(ScriptReason::Unbuilt),
+        Line::Report => Taken::Faulty(ScriptReason::Unbuilt),
+    }
+}
+
+/// The fault of a line on a connection whose form isn't built so far.
+fn unbuilt_on(hub: &Hub, conn: u32) -> Taken
+    ensures { (h : List Event) (before after : List ℕ) → StandsFor hub.now h → LineRan result (on_known (run hub.now.meta h) conn (Faulty Unbuilt)) hub.now hub.now before after }
+{
+    if hub.knows(conn) {
+        Taken::Faulty(ScriptReason::Unbuilt)
+    } else {
+        Taken::Faulty(ScriptReason::Unknown)
+    }
+}
+
+fn run_poll<L: Ledger>(
+    hub: &mut Hub,
+    alloc: Global,
+    out: &mut Vec<u8>,
+    steps: &mut Steps<L>,
+) -> Taken
+    requires stands { (h : List Event) × StandsFor hub.old h }
+    requires few { hub.old.events + 1 + 2 * length hub.old.subscriptions < 2 ^ 62 }
+    ensures { (h : List Event) → StandsFor hub.old h → LineRan result (acts hub.old.meta (run hub.old.meta h) Poll) hub.old hub.new out.old.items out.new.items }
+{
+    match poll(hub, alloc, out, steps) {
         Ok(()) => Taken::Went,
         Err(NoMemory) => Taken::NoMemory,
     }
@@ -53,10 +96,12 @@ fn run_poll(hub: &mut Hub, alloc: Global, out: &mut Vec<u8>) -> Taken
 
 fn run_open(hub: &mut Hub, alloc: Global, conn: u32, out: &mut Vec<u8>) -> Taken
     requires { hub.old.events < 2 ^ 62 }
-    ensures { (h : List Event) → StandsFor hub.old h → LineRan result (act hub.old.meta (run hub.old.meta h) (Some (Act (Connect conn)))) hub.old hub.new out.old.items out.new.items }
+    ensures { (h : List Event) → StandsFor hub.old h → LineRan result (opens hub.old.meta (run hub.old.meta h) conn) hub.old hub.new out.old.items out.new.items }
 {
     match hub.connect(alloc, conn) {
         Ok(ConnReply::Did(effect)) => went(write_open(out, conn, &effect.queued)),
+        Ok(ConnReply::ConnKnown) => Taken::Faulty(ScriptReason::Known),
+        Ok(ConnReply::ConnUnknown) => Taken::Faulty(ScriptReason::Unknown),
         Ok(ConnReply::Unbuilt) => Taken::Faulty(ScriptReason::Unbuilt),
         Err(NoMemory) => Taken::NoMemory,
     }
@@ -64,10 +109,12 @@ fn run_open(hub: &mut Hub, alloc: Global, conn: u32, out: &mut Vec<u8>) -> Taken
 
 fn run_recv(hub: &mut Hub, alloc: Global, conn: u32, text: &str, out: &mut Vec<u8>) -> Taken
     requires { hub.old.events < 2 ^ 62 }
-    ensures { (h : List Event) → StandsFor hub.old h → LineRan result (act hub.old.meta (run hub.old.meta h) (receive_line (Some conn) (read_message text.now))) hub.old hub.new out.old.items out.new.items }
+    ensures { (h : List Event) → StandsFor hub.old h → LineRan result (on_known (run hub.old.meta h) conn (receives hub.old.meta (run hub.old.meta h) conn (read_message text.now))) hub.old hub.new out.old.items out.new.items }
 {
     match hub.recv(alloc, conn, text) {
         Ok(ConnReply::Did(effect)) => went(write_recv(out, conn, &effect.queued)),
+        Ok(ConnReply::ConnKnown) => Taken::Faulty(ScriptReason::Known),
+        Ok(ConnReply::ConnUnknown) => Taken::Faulty(ScriptReason::Unknown),
         Ok(ConnReply::Unbuilt) => Taken::Faulty(ScriptReason::Unbuilt),
         Err(NoMemory) => Taken::NoMemory,
     }
@@ -76,17 +123,17 @@ fn run_recv(hub: &mut Hub, alloc: Global, conn: u32, text: &str, out: &mut Vec<u
 fn run_commit<L: Ledger>(
     hub: &mut Hub,
     alloc: Global,
-    text: &[u8],
+    text: &str,
     out: &mut Vec<u8>,
     steps: &mut Steps<L>,
 ) -> Taken
     requires { hub.old.events < 2 ^ 62 }
-    ensures { (h : List Event) → StandsFor hub.old h → LineRan result (act hub.old.meta (run hub.old.meta h) (read_commit hub.old.meta.tables text.now)) hub.old hub.new out.old.items out.new.items }
+    ensures { (h : List Event) → StandsFor hub.old h → LineRan result (commits hub.old.meta (run hub.old.meta h) (transaction text.now)) hub.old hub.new out.old.items out.new.items }
 {
-    match read_transaction(alloc, hub.meta(), text) {
-        Ok(Some(tx)) => commit(hub, alloc, &tx, out, steps),
-        Ok(None) => Taken::Faulty(ScriptReason::Unbuilt),
-        Err(NoMemory) => Taken::NoMemory,
+    match read_tx(alloc, text) {
+        Ok(tx) => commit(hub, alloc, &tx, out, steps),
+        Err(TxTextFault::NotTransaction) => Taken::Faulty(ScriptReason::Transaction),
+        Err(TxTextFault::NoMemory) => Taken::NoMemory,
     }
 }
 
@@ -98,11 +145,11 @@ fn commit<L: Ledger>(
     steps: &mut Steps<L>,
 ) -> Taken
     requires { hub.old.events < 2 ^ 62 }
-    ensures { (h : List Event) → StandsFor hub.old h → LineRan result (act hub.old.meta (run hub.old.meta h) (Some (Act (Commit (transaction_of tx.now))))) hub.old hub.new out.old.items out.new.items }
+    ensures { (h : List Event) → StandsFor hub.old h → LineRan result (serves hub.old.meta (run hub.old.meta h) (Commit tx.now)) hub.old hub.new out.old.items out.new.items }
 {
     match hub.commit(alloc, tx, steps) {
         Ok(CommitReply::Committed(version)) => went(write_commit(out, version)),
-        Ok(CommitReply::Unbuilt) => Taken::Faulty(ScriptReason::Unbuilt),
+        Ok(CommitReply::Refused(fault)) => went(write_refused(out, fault)),
         Err(NoMemory) => Taken::NoMemory,
     }
 }

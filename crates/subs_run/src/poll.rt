@@ -8,12 +8,18 @@ ghost use Rattle.script_text.specs.Told.{Tells};
 ghost use Rattle.subs_run.specs.Events.{Reaches, TookOne};
 
 use hub::{Answers, Hub, Job, Member, PublishReply, evaluate};
-use scalar_val::NoMemory;
+use scalar_val::{NoMemory, Steps};
 use script_text::{write_job, write_published, write_tick};
 use std::alloc::Global;
+use std::sync::ledger::Ledger;
 
 /// A tick, and then takes and publications for as long as somebody is due.
-pub(crate) fn poll(hub: &mut Hub, alloc: Global, out: &mut Vec<u8>) -> Result<(), NoMemory>
+pub(crate) fn poll<L: Ledger>(
+    hub: &mut Hub,
+    alloc: Global,
+    out: &mut Vec<u8>,
+    steps: &mut Steps<L>,
+) -> Result<(), NoMemory>
     requires stands { (h : List Event) × StandsFor hub.old h }
     requires few { hub.old.events + 1 + 2 * length hub.old.subscriptions < 2 ^ 62 }
     ensures reaches { OnOk result ((h : List Event) → StandsFor hub.old h → Reaches hub.old hub.new (transcript.poll hub.old.meta (run hub.old.meta h)) out.old.items out.new.items) }
@@ -21,18 +27,24 @@ pub(crate) fn poll(hub: &mut Hub, alloc: Global, out: &mut Vec<u8>) -> Result<()
 {
     let due = hub.tick();
     write_tick(out, due)?;
-    publish_due(hub, alloc, due, out)
+    publish_due(hub, alloc, due, out, steps)
 }
 
 /// So many takes and publications, but none once nobody is due.
-fn publish_due(hub: &mut Hub, alloc: Global, due: u64, out: &mut Vec<u8>) -> Result<(), NoMemory>
+fn publish_due<L: Ledger>(
+    hub: &mut Hub,
+    alloc: Global,
+    due: u64,
+    out: &mut Vec<u8>,
+    steps: &mut Steps<L>,
+) -> Result<(), NoMemory>
     requires stands { (h : List Event) × StandsFor hub.old h }
     requires few { hub.old.events + 2 * due < 2 ^ 62 }
     ensures reaches { OnOk result ((h : List Event) → StandsFor hub.old h → Reaches hub.old hub.new (transcript.publish_due hub.old.meta due (run hub.old.meta h) (run hub.old.meta h).due) out.old.items out.new.items) }
     ensures events { OnOk result (hub.new.events ≤ hub.old.events + 2 * due) }
 {
     for _turn in 0..due {
-        if !take_and_publish(hub, alloc, out)? {
+        if !take_and_publish(hub, alloc, out, steps)? {
             return Ok(());
         }
     }
@@ -40,7 +52,12 @@ fn publish_due(hub: &mut Hub, alloc: Global, due: u64, out: &mut Vec<u8>) -> Res
 }
 
 /// A take, and the publication of the taken job: whether somebody was due.
-fn take_and_publish(hub: &mut Hub, alloc: Global, out: &mut Vec<u8>) -> Result<bool, NoMemory>
+fn take_and_publish<L: Ledger>(
+    hub: &mut Hub,
+    alloc: Global,
+    out: &mut Vec<u8>,
+    steps: &mut Steps<L>,
+) -> Result<bool, NoMemory>
     requires { hub.old.events + 2 < 2 ^ 62 }
     ensures took { IfOk result (λ some. (h : List Event) → StandsFor hub.old h → TookOne some hub.old hub.new h out.old.items out.new.items) }
     ensures events { OnOk result (hub.new.events ≤ hub.old.events + 2) }
@@ -49,7 +66,7 @@ fn take_and_publish(hub: &mut Hub, alloc: Global, out: &mut Vec<u8>) -> Result<b
         return Ok(false);
     };
     write_taken(&job, out)?;
-    let outcomes = evaluate(alloc, &job)?;
+    let outcomes = evaluate(alloc, &job, steps)?;
     let answers = Answers::of(&job, outcomes);
     match hub.publish(alloc, answers) {
         Ok(PublishReply::Published(queued)) => {

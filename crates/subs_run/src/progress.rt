@@ -1,14 +1,16 @@
-ghost use Rattle.std.specs.Prelude.{◌≡◌, ◌<◌, ◌+◌, ◌++◌, ◌∷◌, [], ℕ, IfOk, codes};
+ghost use Rattle.std.specs.Prelude.{◌≡◌, ◌<◌, ◌+◌, ◌++◌, ◌∷◌, [], ℕ, Err, IfOk, IfErr, codes};
 ghost use Rattle.model.specs.Values.{same_text};
-ghost use Rattle.model.specs.Forms.{read_metadata};
+ghost use Rattle.role_model.specs.declared.metadata.MetaFault.{MetaFault};
+ghost use Rattle.role_model.specs.MetadataFaults.{metadata_of};
 ghost use Rattle.model.specs.Script.{Reading, take_line, limit};
-ghost use Rattle.subs_run.specs.Progress.{HasStand, StandsAt, Advances, Begins, IfWent};
+ghost use Rattle.subs_run.specs.Progress.{HasStand, StandsAt, Advances, Begins, IsNew, IfWent};
 
 use crate::event::run_line;
 use crate::taken::Taken;
 use hub::Hub;
+use role_schema::{Meta, MetaReadFault};
 use scalar_val::{NoMemory, Steps};
-use script_text::{ScriptReason, read_metadata};
+use script_text::ScriptReason;
 use std::alloc::Global;
 use std::sync::ledger::Ledger;
 
@@ -37,12 +39,14 @@ pub(crate) fn advance<L: Ledger>(
                 return keep_line(metadata, line);
             }
             match begin(alloc, metadata) {
-                Ok(Some(hub)) => {
+                Ok(hub) => {
                     *progress = Progress::Running(hub);
                     Taken::Went
                 }
-                Ok(None) => Taken::Faulty(ScriptReason::Unbuilt),
-                Err(NoMemory) => Taken::NoMemory,
+                Err(MetaReadFault::Refused(fault)) => {
+                    Taken::Faulty(ScriptReason::Metadata(fault))
+                }
+                Err(MetaReadFault::NoMemory) => Taken::NoMemory,
             }
         }
     }
@@ -55,13 +59,25 @@ fn ends_metadata(line: &[u8]) -> bool
     line == b"---".as_slice()
 }
 
-/// The hub at the metadata's end, or `None` where the metadata is of a form that isn't built so far.
-fn begin(alloc: Global, metadata: &[u8]) -> Result<Option<Hub>, NoMemory>
-    ensures { IfOk result (λ hub. Begins (read_metadata metadata.now) hub) }
+/// The hub at the metadata's end, or the metadata's first fault.
+fn begin(alloc: Global, metadata: &[u8]) -> Result<Hub, MetaReadFault>
+    ensures began { IfOk result (λ hub. Begins (metadata_of metadata.now) hub) }
+    ensures refused { (fault : MetaFault) → result ≡ Err (MetaReadFault.Refused fault) → metadata_of metadata.now ≡ Err fault }
 {
-    match read_metadata(alloc, metadata)? {
-        Some(meta) => Ok(Some(Hub::new(alloc, meta)?)),
-        None => Ok(None),
+    match Meta::read(alloc, metadata) {
+        Ok(meta) => begin_with(alloc, meta),
+        Err(fault) => Err(fault),
+    }
+}
+
+/// The hub of metadata that was read.
+fn begin_with(alloc: Global, meta: Meta) -> Result<Hub, MetaReadFault>
+    ensures began { IfOk result (λ hub. IsNew meta hub) }
+    ensures refused { IfErr result (λ e. e ≡ MetaReadFault.NoMemory) }
+{
+    match Hub::new(alloc, meta) {
+        Ok(hub) => Ok(hub),
+        Err(NoMemory) => Err(MetaReadFault::NoMemory),
     }
 }
 

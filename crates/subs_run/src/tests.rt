@@ -2,22 +2,29 @@ ghost use Rattle.std.specs.Prelude.{◌≡◌, ◌<◌};
 
 use crate::run_main;
 use outside::{MemSink, MemSource};
-use scalar_val::Steps;
+use scalar_val::{NoMemory, Steps};
 use std::alloc::Global;
 use std::marker::Brand;
 use std::sync::ledger::{Blank, Ledger};
 use std::test::Fail;
 
-const HEAD: &str =
-    "version = 1\n[[tables]]\nname = \"user\"\nkey = [\"id\"]\ncolumns = [{ name = \"id\", type = \"int\" }, { name = \"age\", type = \"int\" }]\n---\nopen 1\n";
+/// Metadata of one table, in four lines, and its columns.
+const TABLE: &str = "version = 1\n[[tables]]\nname = \"user\"\nkey = [\"id\"]\n";
 
-const INIT: &str = "recv 1 {\"type\":\"connection_init\"}\n";
+const COLUMNS: &str =
+    "columns = [{ name = \"id\", type = \"int\" }, { name = \"name\", type = \"text\", nullable = true }]\n";
 
-const EVENTS: &str =
-    "recv 1 {\"type\":\"connection_init\"}\nrecv 1 {\"type\":\"subscribe\",\"id\":\"a\",\"payload\":{\"query\":\"subscription { user { id age } }\"}}\npoll\ncommit [{\"insert\":\"user\",\"row\":{\"id\":2,\"age\":-5}},{\"insert\":\"user\",\"row\":{\"id\":1,\"age\":40}}]\npoll\npoll\n";
+const END: &str = "---\n";
 
-const TOLD: &str =
-    "open 1\nrecv 1\n> 1 {\"type\":\"connection_ack\"}\nrecv 1\ntick 1\njob 1 version 0 cohorts 1 members 1\npublished 1 version 0\n> 1 {\"type\":\"next\",\"id\":\"a\",\"payload\":{\"data\":{\"user\":[]}}}\ncommit 1\ntick 1\njob 2 version 1 cohorts 1 members 1\npublished 2 version 1\n> 1 {\"type\":\"next\",\"id\":\"a\",\"payload\":{\"data\":{\"user\":[{\"id\":1,\"age\":40},{\"id\":2,\"age\":-5}]}}}\ntick 1\njob 3 version 1 cohorts 1 members 1\npublished 3 version 1\n";
+const INIT: &str = "open 1\nrecv 1 {\"type\":\"connection_init\"}\n";
+
+const ACKNOWLEDGED: &str = "open 1\nrecv 1\n> 1 {\"type\":\"connection_ack\"}\n";
+
+const ASK: &str =
+    "recv 1 {\"type\":\"subscribe\",\"id\":\"a\",\"payload\":{\"query\":\"subscription { user { id name } }\"}}\n";
+
+const FIRST: &str =
+    "recv 1\ntick 1\njob 1 version 0 cohorts 1 members 1\npublished 1 version 0\n> 1 {\"type\":\"next\",\"id\":\"a\",\"payload\":{\"data\":{\"user\":[]}}}\n";
 
 /// Runs the words over ends in memory with a counter of its own.
 fn run_words<L: Ledger>(
@@ -57,53 +64,189 @@ fn status_of(
     Ok(run_words::<Brand>(alloc, Blank::new(1), &words, source, sink))
 }
 
+fn joined(alloc: Global, texts: &[&str]) -> Result<Vec<u8>, NoMemory> {
+    let mut bytes = Vec::new(alloc);
+    for text in texts {
+        bytes.extend_from_slice(text.as_bytes())?;
+    }
+    Ok(bytes)
+}
+
+/// The status of a script, and what is written for it.
+fn answer(alloc: Global, script: &[&str]) -> Result<(u8, Vec<u8>), Fail> {
+    let mut source = MemSource::new(joined(alloc, script)?, 7, Vec::new(alloc));
+    let mut sink = MemSink::new(alloc, Vec::new(alloc));
+    let status = status_of(alloc, "run", &mut source, &mut sink)?;
+    Ok((status, sink.as_slice().to_vec(alloc)?))
+}
+
 #[test]
-fn a_script_is_answered_by_its_transcript(rt: HostRuntime) -> Result<(), Fail> {
+fn a_change_is_told_and_a_change_back_is_not(rt: HostRuntime) -> Result<(), Fail> {
     let alloc = rt.alloc();
-    let cases = [
-        (HEAD, EVENTS, 0, TOLD),
-        (HEAD, "\n# a comment\n", 0, "open 1\n"),
-        (HEAD, "tick\n", 2, "open 1\nfault 8 unbuilt\n"),
-        (HEAD, "open 2\n", 2, "open 1\nfault 8 unbuilt\n"),
-        (HEAD, "frob 1\n", 2, "open 1\nfault 8 unbuilt\n"),
-        (HEAD, "open 1\n", 2, "open 1\nfault 8 unbuilt\n"),
-        (HEAD, "recv 2 {}\n", 2, "open 1\nfault 8 unbuilt\n"),
-        (HEAD, "rec", 2, "open 1\nfault 8 cut\n"),
-        ("", "", 2, "fault 1 cut\n"),
-        ("version = 1\n", "---\n", 2, "fault 2 unbuilt\n"),
-    ];
-    for (head, events, status, told) in cases {
-        let mut bytes = head.as_bytes().to_vec(alloc)?;
-        bytes.extend_from_slice(events.as_bytes())?;
-        let mut source = MemSource::new(bytes, 7, Vec::new(alloc));
-        let mut sink = MemSink::new(alloc, Vec::new(alloc));
-        let got = status_of(alloc, "run", &mut source, &mut sink)?;
-        assert_eq!(rt; sink.as_slice(), told.as_bytes());
-        assert_eq!(rt; got, status);
+    let changes =
+        "commit [{\"insert\":\"user\",\"row\":{\"id\":1,\"name\":\"Ann\"}}]\npoll\ncommit [{\"update\":\"user\",\"key\":{\"id\":1},\"set\":{\"name\":\"Bo\"}}]\ncommit [{\"update\":\"user\",\"key\":{\"id\":1},\"set\":{\"name\":\"Ann\"}}]\npoll\n";
+    let (status, told) = answer(alloc, &[TABLE, COLUMNS, END, INIT, ASK, "poll\n", changes])?;
+    let want = joined(
+        alloc,
+        &[
+            ACKNOWLEDGED,
+            FIRST,
+            "commit 1\ntick 1\njob 2 version 1 cohorts 1 members 1\npublished 2 version 1\n> 1 {\"type\":\"next\",\"id\":\"a\",\"payload\":{\"data\":{\"user\":[{\"id\":1,\"name\":\"Ann\"}]}}}\ncommit 2\ncommit 3\ntick 1\njob 3 version 3 cohorts 1 members 1\npublished 3 version 3\n",
+        ],
+    )?;
+    assert_eq!(rt; told.as_slice(), want.as_slice());
+    assert_eq!(rt; status, 0);
+    Ok(())
+}
+
+#[test]
+fn a_poll_without_a_change_tells_nothing(rt: HostRuntime) -> Result<(), Fail> {
+    let alloc = rt.alloc();
+    let (status, told) = answer(
+        alloc,
+        &[TABLE, COLUMNS, END, INIT, ASK, "poll\n\n# again\npoll\n"],
+    )?;
+    let want = joined(
+        alloc,
+        &[
+            ACKNOWLEDGED,
+            FIRST,
+            "tick 1\njob 2 version 0 cohorts 1 members 1\npublished 2 version 0\n",
+        ],
+    )?;
+    assert_eq!(rt; told.as_slice(), want.as_slice());
+    assert_eq!(rt; status, 0);
+    Ok(())
+}
+
+#[test]
+fn the_ends_of_bigint_and_escapes_are_told(rt: HostRuntime) -> Result<(), Fail> {
+    let alloc = rt.alloc();
+    let heading =
+        "version = 1\n[[tables]]\nname = \"k\"\nkey = [\"id\"]\ncolumns = [{ name = \"id\", type = \"bigint\" }, { name = \"body\", type = \"text\" }]\n---\n";
+    let ask =
+        "recv 1 {\"type\":\"subscribe\",\"id\":\"a\",\"payload\":{\"query\":\"subscription { k { id body } }\"}}\n";
+    let commit =
+        "commit [{\"insert\":\"k\",\"row\":{\"id\":9223372036854775807,\"body\":\"\\\"\\u0001\"}},{\"insert\":\"k\",\"row\":{\"id\":-9223372036854775808,\"body\":\"\"}}]\npoll\n";
+    let (status, told) = answer(alloc, &[heading, INIT, ask, commit])?;
+    let want = joined(
+        alloc,
+        &[
+            ACKNOWLEDGED,
+            "recv 1\ncommit 1\ntick 1\njob 1 version 1 cohorts 1 members 1\npublished 1 version 1\n> 1 {\"type\":\"next\",\"id\":\"a\",\"payload\":{\"data\":{\"k\":[{\"id\":-9223372036854775808,\"body\":\"\"},{\"id\":9223372036854775807,\"body\":\"\\\"\\u0001\"}]}}}\n",
+        ],
+    )?;
+    assert_eq!(rt; told.as_slice(), want.as_slice());
+    assert_eq!(rt; status, 0);
+    Ok(())
+}
+
+#[test]
+fn each_refusal_has_its_reason(rt: HostRuntime) -> Result<(), Fail> {
+    let alloc = rt.alloc();
+    let taken =
+        "commit [{\"insert\":\"user\",\"row\":{\"id\":1}},{\"insert\":\"user\",\"row\":{\"id\":2}},{\"insert\":\"user\",\"row\":{\"id\":1}}]\n";
+    let (status, told) = answer(alloc, &[TABLE, COLUMNS, END, taken])?;
+    assert_eq!(rt; told.as_slice(), b"refused 3 KeyTaken\n".as_slice());
+    assert_eq!(rt; status, 0);
+
+    let commits =
+        "commit [{\"insert\":\"user\",\"row\":{\"id\":1,\"name\":\"Ann\"}}]\ncommit [{\"insert\":\"user\",\"row\":{\"id\":2,\"name\":\"Ann\"}}]\ncommit [{\"insert\":\"user\",\"row\":{\"id\":2}}]\ncommit [{\"update\":\"user\",\"key\":{\"id\":3},\"set\":{}}]\ncommit [{\"insert\":\"x\",\"row\":{}}]\ncommit [{\"insert\":\"user\",\"row\":{\"id\":2,\"age\":1}}]\ncommit [{\"insert\":\"user\",\"row\":{\"id\":\"a\"}}]\ncommit [{\"insert\":\"user\",\"row\":{\"name\":\"B\"}}]\ncommit {}\n";
+    let (status, told) = answer(
+        alloc,
+        &[
+            TABLE,
+            COLUMNS,
+            "unique = [\"name\"]\nmax_rows = 1\n",
+            END,
+            commits,
+        ],
+    )?;
+    let want =
+        b"commit 1\nrefused 1 UniqueTaken\nrefused 1 TableFull\nrefused 1 NoRow\nrefused 1 NoTable\nrefused 1 NoColumn\nrefused 1 WrongKind\nrefused 1 NullGiven\nfault 17 transaction\n";
+    assert_eq!(rt; told.as_slice(), want.as_slice());
+    assert_eq!(rt; status, 2);
+    Ok(())
+}
+
+#[test]
+fn a_line_at_fault_ends_the_script(rt: HostRuntime) -> Result<(), Fail> {
+    let alloc = rt.alloc();
+    for (lines, want) in [
+        ("rec", "open 1\nfault 8 cut\n"),
+        ("frob 1\n", "open 1\nfault 8 event\n"),
+        ("open 1\n", "open 1\nfault 8 known\n"),
+        ("recv 2 {}\n", "open 1\nfault 8 unknown\n"),
+        ("drain 2\n", "open 1\nfault 8 unknown\n"),
+        ("drain 1\n", "open 1\nfault 8 unbuilt\n"),
+        ("recv 1 {}\n", "open 1\nfault 8 unbuilt\n"),
+        ("tick\n", "open 1\nfault 8 unbuilt\n"),
+        ("commit {}\n", "open 1\nfault 8 transaction\n"),
+        ("commit []\n", "open 1\ncommit 1\n"),
+    ] {
+        let (status, told) = answer(alloc, &[TABLE, COLUMNS, END, "open 1\n", lines])?;
+        assert_eq!(rt; told.as_slice(), want.as_bytes());
+        assert_eq!(rt; status == 2, want.contains("fault"));
     }
     Ok(())
 }
 
 #[test]
-fn a_failing_end_is_told(rt: HostRuntime) -> Result<(), Fail> {
+fn the_first_fault_of_metadata_is_told(rt: HostRuntime) -> Result<(), Fail> {
     let alloc = rt.alloc();
-    let mut bytes = HEAD.as_bytes().to_vec(alloc)?;
-    bytes.extend_from_slice(INIT.as_bytes())?;
+    for (heading, want) in [
+        ("", "fault 2 metadata BadForm\n"),
+        ("version = \n", "fault 3 metadata Toml\n"),
+        (
+            "version = 3\n[[tables]]\nname = \"user\"\nkey = [\"id\"]\n",
+            "fault 6 metadata BadVersion\n",
+        ),
+        (
+            "version = 1\n[[tables]]\nname = \"user\"\n",
+            "fault 5 metadata BadForm\n",
+        ),
+        (
+            "version = 1\n[[tables]]\nname = \"user\"\nkey = [\"no\"]\n",
+            "fault 6 metadata NoColumn\n",
+        ),
+        (
+            "version = 1\n[[tables]]\nname = \"user\"\nkey = [\"name\"]\n",
+            "fault 6 metadata BadKind\n",
+        ),
+    ] {
+        let (status, told) = answer(alloc, &[heading, COLUMNS, END])?;
+        assert_eq!(rt; told.as_slice(), want.as_bytes());
+        assert_eq!(rt; status, 2);
+    }
+    let (status, told) = answer(alloc, &[])?;
+    assert_eq!(rt; told.as_slice(), b"fault 1 cut\n".as_slice());
+    assert_eq!(rt; status, 2);
+    Ok(())
+}
+
+#[test]
+fn a_failing_source_is_told(rt: HostRuntime) -> Result<(), Fail> {
+    let alloc = rt.alloc();
+    let mut bytes = joined(alloc, &[TABLE, COLUMNS, END, INIT])?;
     let front = bytes.len().max(1);
+    bytes.extend_from_slice(ASK.as_bytes())?;
     bytes.extend_from_slice(b"poll\n")?;
     let mut source = MemSource::new(bytes, front, [2].to_vec(alloc)?);
     let mut sink = MemSink::new(alloc, Vec::new(alloc));
-    let got = status_of(alloc, "run", &mut source, &mut sink)?;
-    assert_eq!(rt; got, 1);
-    assert_eq!(rt;
-        sink.as_slice(),
-        b"open 1\nrecv 1\n> 1 {\"type\":\"connection_ack\"}\n".as_slice()
-    );
+    let status = status_of(alloc, "run", &mut source, &mut sink)?;
+    assert_eq!(rt; status, 1);
+    assert_eq!(rt; sink.as_slice(), ACKNOWLEDGED.as_bytes());
+    Ok(())
+}
 
-    let mut source = MemSource::new(HEAD.as_bytes().to_vec(alloc)?, 4096, Vec::new(alloc));
+#[test]
+fn a_failing_sink_is_told(rt: HostRuntime) -> Result<(), Fail> {
+    let alloc = rt.alloc();
+    let bytes = joined(alloc, &[TABLE, COLUMNS, END, INIT, ASK, "poll\n"])?;
+    let mut source = MemSource::new(bytes, 4096, Vec::new(alloc));
     let mut sink = MemSink::new(alloc, [1].to_vec(alloc)?);
-    let got = status_of(alloc, "run", &mut source, &mut sink)?;
-    assert_eq!(rt; got, 3);
+    let status = status_of(alloc, "run", &mut source, &mut sink)?;
+    assert_eq!(rt; status, 3);
     assert!(rt; sink.as_slice().is_empty());
     Ok(())
 }
@@ -112,7 +255,7 @@ fn a_failing_end_is_told(rt: HostRuntime) -> Result<(), Fail> {
 fn other_words_bring_the_usage_line(rt: HostRuntime) -> Result<(), Fail> {
     let alloc = rt.alloc();
     for line in ["", "serve", "load 0", "run run"] {
-        let mut source = MemSource::new(HEAD.as_bytes().to_vec(alloc)?, 4096, Vec::new(alloc));
+        let mut source = MemSource::new(TABLE.as_bytes().to_vec(alloc)?, 4096, Vec::new(alloc));
         let mut sink = MemSink::new(alloc, Vec::new(alloc));
         let got = status_of(alloc, line, &mut source, &mut sink)?;
         assert_eq!(rt; got, 5);
@@ -120,7 +263,7 @@ fn other_words_bring_the_usage_line(rt: HostRuntime) -> Result<(), Fail> {
             sink.as_slice(),
             b"usage: subs COMMAND [WORDS]\n".as_slice()
         );
-        assert_eq!(rt; source.left(), HEAD.as_bytes());
+        assert_eq!(rt; source.left(), TABLE.as_bytes());
     }
     Ok(())
 }

@@ -6,14 +6,14 @@ use Rattle.subs_run.proofs.Polls.{remains_less, nobody_remains}
 use Rattle.subs_run.proofs.poll.publish_due.Goals as goal
 
 pub returns-then-not-branch-clause-reaches : goal.returns-then-not-branch-clause-reaches
-returns-then-not-branch-clause-reaches c h st =
+returns-then-not-branch-clause-reaches g c h st =
     let k = c.args.hub.now in
     let r = c.loop-turn.invariant.remains h st in
     nobody_remains k c.loop-turn.hub c.take_and_publish.new.hub (transcript.publish_due k.meta c.args.due (run k.meta h) (run k.meta h).due) (c.args.due - c.loop-turn._turn) c.args.out.now.items c.loop-turn.out.items c.take_and_publish.new.out.items r
     (subst (λ (b : Bool). TookOne b c.loop-turn.hub c.take_and_publish.new.hub r.history c.loop-turn.out.items c.take_and_publish.new.out.items) c.if-not-branch.true (c.in_ok-take_and_publish.ensures.took r.history r.stands))
 
 pub loop-turn-preserved : goal.loop-turn-preserved
-loop-turn-preserved c = record {
+loop-turn-preserved g c = record {
   remains = λ h st.
       let k = c.args.hub.now in
       let r = c.loop-turn.invariant.remains h st in

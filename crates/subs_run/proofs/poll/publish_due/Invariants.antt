@@ -7,7 +7,7 @@ use Rattle.subs_run.proofs.Polls.{Remains}
 use Rattle.subs_run.proofs.poll.publish_due.Given as goal
 
 abbrev pub invariant-loop-turn : goal.invariant-loop-turn
-invariant-loop-turn l = record {
+invariant-loop-turn g l = record {
   remains : (h : List Event) → StandsFor l.fn.hub h → Remains l.fn.hub l.hub (transcript.publish_due l.fn.hub.meta l.due (run l.fn.hub.meta h) (run l.fn.hub.meta h).due) (l.due - l._turn) l.fn.out.items l.out.items;
   events : l.hub.events ≤ l.fn.hub.events + 2 * l._turn;
 }
