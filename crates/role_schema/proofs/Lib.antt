@@ -1,0 +1,4 @@
+pub mod Forms
+pub mod Slots
+pub mod Soundness
+pub mod Uses
