@@ -2,3 +2,5 @@ pub mod Strings
 pub mod Lexemes
 pub mod Grammar
 pub mod Place
+pub mod Ordered
+pub mod Selection
