@@ -4,3 +4,5 @@ pub mod Grammar
 pub mod Place
 pub mod Ordered
 pub mod Selection
+pub mod Canonical
+pub mod SelectionLaws
