@@ -253,8 +253,11 @@ module _ (s : Scope) where
   selection_step spread (Selection-F.Spread name ds) = unless_dropped (is_dropped s ds) (spread name)
   selection_step spread (Selection-F.Inline on ds inner) = unless_dropped (is_dropped s ds) (λ c. in_order (map (λ e. e.1) inner) (noted_if on c))
 
+  unfoldable pub collect_one : (Text → Collecting) → Selection → Collecting
+  collect_one spread = para-Selection Collecting (selection_step spread)
+
   abbrev pub collecting : (Text → Collecting) → List Selection → Collecting
-  collecting spread set = in_order (map (para-Selection Collecting (selection_step spread)) set)
+  collecting spread set = in_order (map (collect_one spread) set)
 
   -- a fragment gives its selections, once for each object
   abbrev pub visiting : (List Selection → Collecting) → Option Fragment → Collecting
@@ -291,8 +294,14 @@ module _ (s : Scope) where
   abbrev pub fields_down : ℕ → List Selection → List FlatField
   fields_down zero set = []
   fields_down (suc levels) set =
-      map (λ (g : Group). roll-FlatField (record { key = g.first.key; name = g.first.name; args = g.first.args; nested = list_any has_inner (fields_of g);
-          conditions = (collected s (inner_set g)).conditions; fields = fields_down levels (inner_set g) }))
+      map (λ (g : Group). roll-FlatField (record {
+        key = g.first.key;
+        name = g.first.name;
+        args = g.first.args;
+        nested = list_any has_inner (fields_of g);
+        conditions = (collected s (inner_set g)).conditions;
+        fields = fields_down levels (inner_set g);
+      }))
       (collected s set).groups
 
 -- ---- limits
