@@ -1,8 +1,9 @@
 -- What is admitted, and the first refusal of what isn't: GraphQL October 2021, section 5 ("Validation"), and Hasura's
 -- schema of roles. The codes, their order and the names that they give are this project's own.
-use Rattle.std.specs.Prelude.{◌≡◌, ℕ, ℤ, pos, Bool, true, false, not, ◌&&◌, ◌||◌, if◌then◌else◌, int_lt, List, [], ◌∷◌, map, is_some, is_none, unwrap_or, Option, Some, None, option_map, option_and_then, Result, Ok, Err, codes, slice_get}
+use Rattle.std.specs.Prelude.{◌≡◌, ℕ, ℤ, pos, Bool, true, false, not, ◌&&◌, ◌||◌, if◌then◌else◌, int_lt, List, [], ◌∷◌, ◌++◌, map, is_some, is_none, unwrap_or, Option, Some, None, option_map, option_and_then, Result, Ok, Err, codes, slice_get}
 use Rattle.std.specs.List.{list_any}
 use Rattle.std.specs.Str.{bytes_eq}
+use Rattle.std.specs.Fmt.{signed_decimal}
 use Rattle.serde_json.specs.Data.{Members}
 use Rattle.scalar_val.specs.declared.val.Kind.{Kind}
 use Rattle.scalar_val.specs.declared.val.Kind.TheVariants as kind
@@ -473,3 +474,30 @@ code_of fault.NullOperand = codes "NullOperand"
 code_of fault.BadCursor = codes "BadCursor"
 code_of fault.MissingSession = codes "MissingSession"
 code_of fault.BadSession = codes "BadSession"
+
+abbrev pub naming : Text → Text → Text
+naming words name = words ++ 58 ∷ 32 ∷ name
+
+abbrev pub message_by : FaultKind → ℕ → Text → Text
+message_by fault.Syntax at name = codes "syntax error at byte " ++ signed_decimal (pos at)
+message_by fault.NoOperation at name = codes "no such operation"
+message_by fault.AmbiguousOperation at name = codes "operation name needed"
+message_by fault.NotServed at name = codes "operation type not served"
+message_by fault.UnknownFragment at name = codes "no such fragment"
+message_by fault.FragmentCycle at name = codes "fragment cycle"
+message_by fault.NoDirective at name = codes "directive not served"
+message_by fault.NotBoolean at name = codes "directive needs a boolean"
+message_by fault.TooLarge at name = codes "selection too large"
+message_by fault.Conflict at name = codes "fields conflict"
+message_by fault.NotOneRoot at name = codes "one root field needed"
+message_by fault.MissingVariable at name = naming (codes "missing variable") name
+message_by fault.WrongType at name = naming (codes "wrong type") name
+message_by fault.NoField at name = naming (codes "no such field") name
+message_by fault.NoArgument at name = naming (codes "bad argument") name
+message_by fault.NullOperand at name = naming (codes "null operand") name
+message_by fault.BadCursor at name = naming (codes "bad cursor") name
+message_by fault.MissingSession at name = naming (codes "missing session variable") name
+message_by fault.BadSession at name = naming (codes "bad session variable") name
+
+abbrev pub message_of : QueryFault → Text
+message_of f = message_by f.kind f.at f.name

@@ -5,3 +5,5 @@ pub mod Queries
 pub mod Admission
 pub mod Taken
 pub mod Results
+pub mod Plans
+pub mod Laws

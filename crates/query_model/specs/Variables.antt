@@ -153,6 +153,10 @@ slot_in None = One val.Null
 abbrev pub variable_slot : List Variable → Text → Slot
 variable_slot vs name = slot_in (variable_named vs name)
 
+abbrev pub number_in : Val → Option ℕ
+number_in (val.Int (pos n)) = Some n
+number_in _ = None
+
 module _ (vs : List Variable) where
   -- one value of a kind
   abbrev pub value_read : Kind → GValue → Val
@@ -169,10 +173,6 @@ module _ (vs : List Variable) where
       by_variable : Option Text → List Val
       by_variable (Some name) = many_values (Some (variable_slot vs name))
       by_variable None = map (value_read k) (items_in x)
-
-  abbrev pub number_in : Val → Option ℕ
-  number_in (val.Int (pos n)) = Some n
-  number_in _ = None
 
   -- a number that isn't negative, or none where null or nothing is given
   abbrev pub number_read : Option GValue → Option ℕ
