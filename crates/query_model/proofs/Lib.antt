@@ -1,0 +1,4 @@
+pub mod QueryRules
+mod Samples
+mod ResultRows
+mod AdmissionRows

@@ -23,7 +23,7 @@ use Rattle.role_model.specs.Truth.{is_null, one_value, many_values}
 use Rattle.request_model.specs.declared.document.GValue.{GValue}
 use Rattle.request_model.specs.declared.document.GValue.TheOpen.{GValue-F, GPair-F}
 use Rattle.request_model.specs.declared.document.GValue.TheViews.{out-GValue}
-use Rattle.request_model.specs.declared.document.GValue.TheFolds.{para-GValue}
+use Rattle.request_model.specs.declared.document.GValue.TheFolds.{para-GValue, para-GPair}
 use Rattle.request_model.specs.declared.document.GPair.{GPair}
 use Rattle.request_model.specs.declared.document.VarDef.{VarDef}
 use Rattle.request_model.specs.declared.document.Document.{Document}
@@ -93,6 +93,12 @@ same_kind kind.Big kind.Big = true
 same_kind kind.Text kind.Text = true
 same_kind kind.Uuid kind.Uuid = true
 same_kind _ _ = false
+
+-- A value as one condition on a table, and as a list of conditions or one: its first fault, by the name that takes the
+-- blame for its form.
+pub record Judged : Type 0 where
+  pub one : Text → ℕ → Option QueryFault
+  pub many : Text → ℕ → Option QueryFault
 
 module _ (vars : List Variable) where
   -- ---- values
@@ -169,12 +175,6 @@ module _ (vars : List Variable) where
     column_fault table name x (Some column) =
         if is_object x then pairs_fault (λ other. refusal fault.WrongType name) (operator_fault name (kind_of v table column)) [] (pairs_in x) else refused fault.WrongType name
 
-    -- A value as one condition, and as a list of conditions or one: the name that takes the blame for its form, and the
-    -- table.
-    pub record Judged : Type 0 where
-      pub one : Text → ℕ → Option QueryFault
-      pub many : Text → ℕ → Option QueryFault
-
     abbrev pub key_fault : GPair-F (GValue × Judged) (GPair × (ℕ → Option QueryFault)) → ℕ → Option QueryFault
     key_fault p table =
         if bytes_eq p.name (codes "_and") || bytes_eq p.name (codes "_or") then p.value.1.many p.name table
@@ -198,6 +198,10 @@ module _ (vars : List Variable) where
 
     unfoldable pub judged : GValue → Judged
     judged = para-GValue Judged (ℕ → Option QueryFault) condition_step key_fault
+
+    -- one key of an object of conditions
+    unfoldable pub judged_at : GPair → ℕ → Option QueryFault
+    judged_at = para-GPair Judged (ℕ → Option QueryFault) condition_step key_fault
 
     abbrev pub where_fault : ℕ → GValue → Option QueryFault
     where_fault table x = if is_null_literal x then None else (judged x).one (codes "where") table

@@ -15,7 +15,7 @@ use Rattle.role_model.specs.JsonFilters.{op_named}
 use Rattle.role_model.specs.Roles.{View, column_seen}
 use Rattle.request_model.specs.declared.document.GValue.{GValue}
 use Rattle.request_model.specs.declared.document.GValue.TheOpen.{GValue-F, GPair-F}
-use Rattle.request_model.specs.declared.document.GValue.TheFolds.{para-GValue}
+use Rattle.request_model.specs.declared.document.GValue.TheFolds.{para-GValue, para-GPair}
 use Rattle.request_model.specs.declared.document.GPair.{GPair}
 use Rattle.request_model.specs.Strings.{Text}
 use Rattle.query_model.specs.Names.{kind_of, pair_name, pair_value, pairs_in, items_in, enum_in}
@@ -33,6 +33,11 @@ abbrev pub compares : ℕ → Operand → Option Op → Filter
 compares column operand (Some op) = filter.Cmp column op operand
 compares column operand None = always
 
+-- a value as one condition on a table, and as a list of conditions
+pub record Conditions : Type 0 where
+  pub one : ℕ → Filter
+  pub many : ℕ → List Filter
+
 module _ (v : View) (r : Reader) where
   abbrev pub operator_filter : ℕ → Kind → GPair → Filter
   operator_filter column k p =
@@ -45,11 +50,6 @@ module _ (v : View) (r : Reader) where
   abbrev pub column_filter : ℕ → GValue → Option ℕ → Filter
   column_filter table x (Some column) = filter.And (map (operator_filter column (kind_of v table column)) (pairs_in x))
   column_filter table x None = always
-
-  -- a value as one condition on a table, and as a list of conditions
-  pub record Conditions : Type 0 where
-    pub one : ℕ → Filter
-    pub many : ℕ → List Filter
 
   -- `_and`, `_or`, `_not` or a column
   abbrev pub key_filter : GPair-F (GValue × Conditions) (GPair × (ℕ → Filter)) → ℕ → Filter
@@ -70,6 +70,10 @@ module _ (v : View) (r : Reader) where
 
   unfoldable pub conditions_in : GValue → Conditions
   conditions_in = para-GValue Conditions (ℕ → Filter) conditions_step key_filter
+
+  -- the condition of one key of an object
+  unfoldable pub condition_at : GPair → ℕ → Filter
+  condition_at = para-GPair Conditions (ℕ → Filter) conditions_step key_filter
 
   -- the argument `where`; without one, or with null, every row is meant
   abbrev pub where_filter : ℕ → Option GValue → Filter
