@@ -2,3 +2,5 @@ pub mod QueryRules
 mod Samples
 mod ResultRows
 mod AdmissionRows
+mod UsualClient
+mod PlanRows

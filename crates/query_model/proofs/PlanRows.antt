@@ -1,0 +1,52 @@
+-- A worked plan: a reader's posts with a limit and a list from variables.
+use Rattle.std.proofs.Common.{◌≡◌, ◌∙◌, ℕ, List, [], ◌∷◌, map, Option, Some, None, true, false, pos, refl, ap, sym}
+use Rattle.std.specs.Prelude.{codes}
+use Rattle.std.specs.Fmt.{digits}
+use Rattle.json.specs.Print.{escape_byte}
+use Rattle.scalar_val.specs.declared.val.Kind.TheVariants as kind
+use Rattle.scalar_val.specs.declared.val.Val.TheVariants as val
+use Rattle.data_model.specs.Rows.{Database, Row}
+use Rattle.role_model.specs.declared.filter.Binding.{Binding}
+use Rattle.role_model.specs.declared.filter.Filter.TheVariants as filter
+use Rattle.role_model.specs.declared.filter.Items.TheVariants as items
+use Rattle.role_model.specs.declared.filter.Op.TheVariants as compare
+use Rattle.role_model.specs.declared.filter.Operand.TheVariants as operand
+use Rattle.role_model.specs.declared.filter.Slot.TheVariants.{One, Many}
+use Rattle.role_model.specs.declared.plan.Field.{Field}
+use Rattle.role_model.specs.declared.plan.Field.TheVariants as field
+use Rattle.role_model.specs.declared.plan.Field.TheViews.{roll-Select}
+use Rattle.role_model.specs.declared.plan.Plan.{Plan}
+use Rattle.role_model.specs.declared.plan.Shape.TheVariants as shape
+use Rattle.role_model.specs.Roles.{View}
+use Rattle.role_model.proofs.Truths.{truths}
+use Rattle.request_model.specs.declared.document.GValue.TheVariants as v
+use Rattle.request_model.specs.declared.flat.Flat.{Flat}
+use Rattle.request_model.proofs.SelectionRules.{canonical_texts}
+use Rattle.query_model.specs.Plans.{plan_of}
+use Rattle.query_model.proofs.QueryRules.{queries}
+use Rattle.query_model.proofs.Samples.{posts, leaf, node, subscription, pair, one, order_by, int, text, post}
+
+abbrev as_reader : View
+as_reader = record { metadata = posts; role = codes "reader" }
+
+-- subscription { post(where: {id: {_in: $ids}}, order_by: {title: asc}, limit: $n) { id author { __typename } } }
+abbrev chosen_posts : Flat
+chosen_posts = subscription []
+    (node (codes "post") (pair (codes "where") (one (codes "id") (one (codes "_in") (v.Var (codes "ids")))) ∷ order_by (codes "title") (codes "asc") ∷ pair (codes "limit") (v.Var (codes "n")) ∷ [])
+        (leaf (codes "id") ∷ node (codes "author") [] (leaf (codes "__typename") ∷ []) ∷ []))
+
+-- the variables are numbered in order of name: ids, n
+abbrev chosen_plan : Plan
+chosen_plan = record { key = codes "post"; names = codes "user" ∷ codes "post" ∷ []; root = roll-Select (record {
+    table = 1; shape = shape.List;
+    filter = filter.And (
+        filter.And (filter.And (filter.Among 0 false (items.Var 0) ∷ []) ∷ [])
+        ∷ filter.And (filter.And (filter.Cmp 1 compare.Eq (operand.Sess 0) ∷ []) ∷ []) ∷ []);
+    order = record { column = 2; descending = false; nulls_first = false } ∷ []; limit = Some (operand.Var 1); offset = None; cap = None;
+    fields =
+        field.Column (codes "id") 0
+        ∷ field.Link (codes "author") (1 ∷ []) (0 ∷ []) (roll-Select (record {
+            table = 0; shape = shape.One; filter = filter.And (filter.And [] ∷ []); order = []; limit = None; offset = None; cap = None; fields = field.Typename (codes "__typename") ∷ [] })) ∷ [] }) }
+
+plan : plan_of as_reader chosen_posts ≡ Some chosen_plan
+plan = simp (queries, canonical_texts)
