@@ -126,15 +126,15 @@ abbrev pub argument : Text → List GPair → Option GValue
 argument name args = option_map pair_value (find (λ p. bytes_eq name (pair_name p)) args)
 
 -- null, or what a literal gives before it is fitted to a kind: a boolean, an integer of 64 bits or a string
+abbrev pub literal_by : GValue-F GValue GPair → Option Val
+literal_by GValue-F.Null = Some val.Null
+literal_by (GValue-F.Bool b) = Some (val.Bool b)
+literal_by (GValue-F.Int digits) = spelled kind.Big digits
+literal_by (GValue-F.Text s) = Some (val.Text s)
+literal_by _ = None
+
 abbrev pub literal : GValue → Option Val
-literal x = scalar_in (out-GValue x)
-  where
-    scalar_in : GValue-F GValue GPair → Option Val
-    scalar_in GValue-F.Null = Some val.Null
-    scalar_in (GValue-F.Bool b) = Some (val.Bool b)
-    scalar_in (GValue-F.Int digits) = spelled kind.Big digits
-    scalar_in (GValue-F.Text s) = Some (val.Text s)
-    scalar_in _ = None
+literal x = literal_by (out-GValue x)
 
 -- null, or the value of this kind
 abbrev pub null_or_fitted : Kind → Val → Option Val
@@ -144,65 +144,68 @@ null_or_fitted k x = if is_null x then Some val.Null else fitted k x
 abbrev pub literal_value : Kind → GValue → Val
 literal_value k x = unwrap_or (option_and_then (null_or_fitted k) (literal x)) val.Null
 
-abbrev pub variable_in : GValue → Option Text
-variable_in x = named_in (out-GValue x)
-  where
-    named_in : GValue-F GValue GPair → Option Text
-    named_in (GValue-F.Var name) = Some name
-    named_in _ = None
+abbrev pub variable_by : GValue-F GValue GPair → Option Text
+variable_by (GValue-F.Var name) = Some name
+variable_by _ = None
 
+-- the name of the variable that a value is
+abbrev pub variable_in : GValue → Option Text
+variable_in x = variable_by (out-GValue x)
+
+abbrev pub pairs_by : GValue-F GValue GPair → List GPair
+pairs_by (GValue-F.Object pairs) = pairs
+pairs_by _ = []
+
+-- the pairs of an object
 abbrev pub pairs_in : GValue → List GPair
-pairs_in x = object_in (out-GValue x)
-  where
-    object_in : GValue-F GValue GPair → List GPair
-    object_in (GValue-F.Object pairs) = pairs
-    object_in _ = []
+pairs_in x = pairs_by (out-GValue x)
+
+abbrev pub items_by : GValue → GValue-F GValue GPair → List GValue
+items_by x (GValue-F.Many items) = items
+items_by x _ = x ∷ []
 
 -- the items of a list, or else the value alone
 abbrev pub items_in : GValue → List GValue
-items_in x = list_in (out-GValue x)
-  where
-    list_in : GValue-F GValue GPair → List GValue
-    list_in (GValue-F.Many items) = items
-    list_in _ = x ∷ []
+items_in x = items_by x (out-GValue x)
 
+abbrev pub enum_by : GValue-F GValue GPair → Option Text
+enum_by (GValue-F.Enum name) = Some name
+enum_by _ = None
+
+-- the name of the enum that a value is
 abbrev pub enum_in : GValue → Option Text
-enum_in x = word_in (out-GValue x)
-  where
-    word_in : GValue-F GValue GPair → Option Text
-    word_in (GValue-F.Enum name) = Some name
-    word_in _ = None
+enum_in x = enum_by (out-GValue x)
 
 -- ---- a stream's cursor: an object, or a list of one
 
+abbrev pub pairs_of_first : Option (List GValue) → List GPair
+pairs_of_first (Some (x ∷ xs)) = pairs_in x
+pairs_of_first (Some []) = []
+pairs_of_first None = []
+
 abbrev pub cursor_pairs : List GPair → List GPair
 cursor_pairs args = pairs_of_first (option_map items_in (argument (codes "cursor") args))
-  where
-    pairs_of_first : Option (List GValue) → List GPair
-    pairs_of_first (Some (x ∷ xs)) = pairs_in x
-    pairs_of_first (Some []) = []
-    pairs_of_first None = []
 
 abbrev pub pairs_or_none : Option GValue → List GPair
 pairs_or_none (Some x) = pairs_in x
 pairs_or_none None = []
 
+abbrev pub first_pair : List GPair → Option GPair
+first_pair (p ∷ ps) = Some p
+first_pair [] = None
+
 -- the pair of a column and the initial value
 abbrev pub initial_pair : List GPair → Option GPair
 initial_pair args = first_pair (pairs_or_none (argument (codes "initial_value") (cursor_pairs args)))
-  where
-    first_pair : List GPair → Option GPair
-    first_pair (p ∷ ps) = Some p
-    first_pair [] = None
 
 -- the column of the stream
 abbrev pub initial_column : View → ℕ → List GPair → ℕ
 initial_column v table args = unwrap_or (option_and_then (λ p. column_seen v table (pair_name p)) (initial_pair args)) 0
 
+abbrev pub is_desc : Option Text → Bool
+is_desc (Some name) = bytes_eq name (codes "DESC")
+is_desc None = false
+
 -- the stream goes down where the ordering is `DESC`, and else up
 abbrev pub descends : List GPair → Bool
 descends args = is_desc (option_and_then enum_in (argument (codes "ordering") (cursor_pairs args)))
-  where
-    is_desc : Option Text → Bool
-    is_desc (Some name) = bytes_eq name (codes "DESC")
-    is_desc None = false

@@ -89,22 +89,23 @@ module _ (v : View) where
   abbrev pub filter_slots : Filter → ℕ → List SessionSlot
   filter_slots = fold-Filter (ℕ → List SessionSlot) filter_slots_step
 
+  abbrev pub slots_by : ℕ → Option Filter → List SessionSlot
+  slots_by table (Some f) = filter_slots f table
+  slots_by table None = []
+
+  -- those that the role's filter of a table names
   abbrev pub table_slots : ℕ → List SessionSlot
-  table_slots table = named_by (filter_seen v table)
-    where
-      named_by : Option Filter → List SessionSlot
-      named_by (Some f) = filter_slots f table
-      named_by None = []
+  table_slots table = slots_by table (filter_seen v table)
+
+  abbrev pub tables_by : List (ℕ → List ℕ) → Meant → List ℕ
+  tables_by inner (ALink l) = l.table ∷ flat_map (λ (g : ℕ → List ℕ). g l.table) inner
+  tables_by inner Typename = []
+  tables_by inner (AColumn column) = []
+  tables_by inner Unseen = []
 
   -- the tables of the fields in an object of a table
   abbrev pub tables_step : FlatField-F (ℕ → List ℕ) → ℕ → List ℕ
-  tables_step f table = below (meant v table f.name)
-    where
-      below : Meant → List ℕ
-      below (ALink l) = l.table ∷ flat_map (λ (g : ℕ → List ℕ). g l.table) f.fields
-      below Typename = []
-      below (AColumn column) = []
-      below Unseen = []
+  tables_step f table = tables_by f.fields (meant v table f.name)
 
   abbrev pub tables_below : ℕ → FlatField → List ℕ
   tables_below table f = fold-FlatField (ℕ → List ℕ) tables_step f table

@@ -50,19 +50,16 @@ single_type name strict = option_map (λ k. record { kind = k; listed = false; s
 abbrev pub list_type : Bool → VarType → Option VarType
 list_type strict t = if t.listed then None else Some (record { kind = t.kind; listed = true; strict = strict; strict_item = t.strict })
 
-abbrev pub item_type : TypeRef → Option VarType
-item_type x = named_in (out-TypeRef x)
-  where
-    named_in : TypeRef-F TypeRef → Option VarType
-    named_in (TypeRef-F.Named name strict) = single_type name strict
-    named_in (TypeRef-F.Listed inner strict) = None
+abbrev pub item_type_by : TypeRef-F TypeRef → Option VarType
+item_type_by (TypeRef-F.Named name strict) = single_type name strict
+item_type_by (TypeRef-F.Listed inner strict) = None
+
+abbrev pub type_by : TypeRef-F TypeRef → Option VarType
+type_by (TypeRef-F.Named name strict) = single_type name strict
+type_by (TypeRef-F.Listed inner strict) = option_and_then (list_type strict) (item_type_by (out-TypeRef inner))
 
 abbrev pub type_of : TypeRef → Option VarType
-type_of x = type_in (out-TypeRef x)
-  where
-    type_in : TypeRef-F TypeRef → Option VarType
-    type_in (TypeRef-F.Named name strict) = single_type name strict
-    type_in (TypeRef-F.Listed inner strict) = option_and_then (list_type strict) (item_type inner)
+type_of x = type_by (out-TypeRef x)
 
 -- ---- what is given: one value or a list of values, each null, a scalar, or nothing that may stand here
 
@@ -78,12 +75,12 @@ abbrev pub json_input : Data → Input
 json_input (array ds) = Several (json_items ds)
 json_input d = Single (scalar_of d)
 
+abbrev pub literal_input_by : Input → GValue-F GValue GPair → Input
+literal_input_by other (GValue-F.Many items) = Several (map literal items)
+literal_input_by other _ = other
+
 abbrev pub literal_input : GValue → Input
-literal_input x = input_in (out-GValue x)
-  where
-    input_in : GValue-F GValue GPair → Input
-    input_in (GValue-F.Many items) = Several (map literal items)
-    input_in _ = Single (literal x)
+literal_input x = literal_input_by (Single (literal x)) (out-GValue x)
 
 -- ---- values: of a list type a list, and null where the list is null
 
@@ -134,12 +131,12 @@ abbrev pub with_value : Text → VarType → Result Slot FaultKind → Result Va
 with_value name t (Ok s) = Ok (record { name = name; type = t; value = s })
 with_value name t (Err e) = Err e
 
+abbrev pub variable_by : Text → Input → Option VarType → Result Variable FaultKind
+variable_by name given (Some t) = with_value name t (input_value t given)
+variable_by name given None = Err fault.WrongType
+
 abbrev pub variable_of : Members → VarDef → Result Variable FaultKind
-variable_of values x = typed (type_of x.kind)
-  where
-    typed : Option VarType → Result Variable FaultKind
-    typed (Some t) = with_value x.name t (input_value t (counted (get_member x.name values) x.default))
-    typed None = Err fault.WrongType
+variable_of values x = variable_by x.name (counted (get_member x.name values) x.default) (type_of x.kind)
 
 -- ---- the values that a literal or a variable stands for, where it may stand; else null
 
@@ -158,21 +155,21 @@ number_in (val.Int (pos n)) = Some n
 number_in _ = None
 
 module _ (vs : List Variable) where
+  abbrev pub value_by : Val → Option Text → Val
+  value_by other (Some name) = one_value (Some (variable_slot vs name))
+  value_by other None = other
+
   -- one value of a kind
   abbrev pub value_read : Kind → GValue → Val
-  value_read k x = by_variable (variable_in x)
-    where
-      by_variable : Option Text → Val
-      by_variable (Some name) = one_value (Some (variable_slot vs name))
-      by_variable None = literal_value k x
+  value_read k x = value_by (literal_value k x) (variable_in x)
+
+  abbrev pub values_by : List Val → Option Text → List Val
+  values_by others (Some name) = many_values (Some (variable_slot vs name))
+  values_by others None = others
 
   -- those of a variable of a list type, of a written list, or one alone
   abbrev pub values_read : Kind → GValue → List Val
-  values_read k x = by_variable (variable_in x)
-    where
-      by_variable : Option Text → List Val
-      by_variable (Some name) = many_values (Some (variable_slot vs name))
-      by_variable None = map (value_read k) (items_in x)
+  values_read k x = values_by (map (value_read k) (items_in x)) (variable_in x)
 
   -- a number that isn't negative, or none where null or nothing is given
   abbrev pub number_read : Option GValue → Option ℕ
