@@ -72,19 +72,19 @@ pairs_fault strange judge before [] = None
 pairs_fault strange judge before (p ∷ ps) =
     or_then (if list_any (bytes_eq (pair_name p)) before then Some (strange (pair_name p)) else judge p) (pairs_fault strange judge (pair_name p ∷ before) ps)
 
+abbrev pub object_by : GValue-F GValue GPair → Bool
+object_by (GValue-F.Object pairs) = true
+object_by _ = false
+
 abbrev pub is_object : GValue → Bool
-is_object x = object_in (out-GValue x)
-  where
-    object_in : GValue-F GValue GPair → Bool
-    object_in (GValue-F.Object pairs) = true
-    object_in _ = false
+is_object x = object_by (out-GValue x)
+
+abbrev pub null_by : GValue-F GValue GPair → Bool
+null_by GValue-F.Null = true
+null_by _ = false
 
 abbrev pub is_null_literal : GValue → Bool
-is_null_literal x = null_in (out-GValue x)
-  where
-    null_in : GValue-F GValue GPair → Bool
-    null_in GValue-F.Null = true
-    null_in _ = false
+is_null_literal x = null_by (out-GValue x)
 
 abbrev pub same_kind : Kind → Kind → Bool
 same_kind kind.Bool kind.Bool = true
@@ -103,15 +103,22 @@ pub record Judged : Type 0 where
 module _ (vars : List Variable) where
   -- ---- values
 
+  -- the declared type is the kind's, or that of a list of the kind
+  abbrev pub has_type : Bool → Kind → Variable → Bool
+  has_type listed k x = same_kind k x.type.kind && (if listed then x.type.listed else not x.type.listed)
+
+  abbrev pub declared_fault : Bool → Kind → (Slot → Option QueryFault) → Text → Option Variable → Option QueryFault
+  declared_fault listed k judge name None = refused fault.MissingVariable name
+  declared_fault listed k judge name (Some x) = if has_type listed k x then judge x.value else refused fault.WrongType name
+
   -- what the variable of a name is to a place that wants one value of a kind, or a list of them; `judge` judges its value
   abbrev pub variable_fault : Bool → Kind → (Slot → Option QueryFault) → Text → Option QueryFault
-  variable_fault listed k judge name = known (variable_named vars name)
-    where
-      known : Option Variable → Option QueryFault
-      known None = refused fault.MissingVariable name
-      known (Some x) =
-          let fits = same_kind k x.type.kind && (if listed then x.type.listed else not x.type.listed) in
-          if fits then judge x.value else refused fault.WrongType name
+  variable_fault listed k judge name = declared_fault listed k judge name (variable_named vars name)
+
+  -- the variable that a value is, or else the value as it is written
+  abbrev pub by_variable : Bool → Kind → (Slot → Option QueryFault) → Option QueryFault → Option Text → Option QueryFault
+  by_variable listed k judge other (Some name) = variable_fault listed k judge name
+  by_variable listed k judge other None = other
 
   abbrev pub null_fault : Text → Val → Option QueryFault
   null_fault place x = refused_if (is_null x) fault.NullOperand place
@@ -123,11 +130,7 @@ module _ (vars : List Variable) where
 
   -- a single value in a place
   abbrev pub single_fault : Text → Kind → GValue → Option QueryFault
-  single_fault place k x = by_variable (variable_in x)
-    where
-      by_variable : Option Text → Option QueryFault
-      by_variable (Some name) = variable_fault false k (λ s. null_fault place (one_value (Some s))) name
-      by_variable None = literal_fault place k (literal x)
+  single_fault place k x = by_variable false k (λ s. null_fault place (one_value (Some s))) (literal_fault place k (literal x)) (variable_in x)
 
   abbrev pub is_null_slot : Slot → Bool
   is_null_slot (One x) = is_null x
@@ -135,25 +138,21 @@ module _ (vars : List Variable) where
 
   -- the values of `_in` and `_nin`: a variable of a list type, a list of single values, or one literal for a list of one
   abbrev pub list_fault : Text → Kind → GValue → Option QueryFault
-  list_fault place k x = by_variable (variable_in x)
-    where
-      by_variable : Option Text → Option QueryFault
-      by_variable (Some name) = variable_fault true k (λ s. refused_if (is_null_slot s) fault.NullOperand place) name
-      by_variable None = first_of (map (single_fault place k) (items_in x))
+  list_fault place k x = by_variable true k (λ s. refused_if (is_null_slot s) fault.NullOperand place) (first_of (map (single_fault place k) (items_in x))) (variable_in x)
 
   abbrev pub is_below : ℤ → Val → Bool
   is_below least (val.Int z) = int_lt z least
   is_below least _ = false
 
+  abbrev pub negative_fault : Text → Val → Option QueryFault
+  negative_fault place x = refused_if (is_below (pos 0) x) fault.WrongType place
+
+  abbrev pub count_literal_fault : Text → GValue → Option QueryFault
+  count_literal_fault place x = if is_null_literal x then None else or_then (literal_fault place kind.Int (literal x)) (negative_fault place (literal_value kind.Int x))
+
   -- `limit` and `offset`: an integer of 0 or more; null is as if the argument weren't there
   abbrev pub count_fault : Text → GValue → Option QueryFault
-  count_fault place x = by_variable (variable_in x)
-    where
-      too_small : Val → Option QueryFault
-      too_small y = refused_if (is_below (pos 0) y) fault.WrongType place
-      by_variable : Option Text → Option QueryFault
-      by_variable (Some name) = variable_fault false kind.Int (λ s. too_small (one_value (Some s))) name
-      by_variable None = if is_null_literal x then None else or_then (literal_fault place kind.Int (literal x)) (too_small (literal_value kind.Int x))
+  count_fault place x = by_variable false kind.Int (λ s. negative_fault place (one_value (Some s))) (count_literal_fault place x) (variable_in x)
 
   -- `batch_size`: an integer of 1 or more
   abbrev pub batch_fault : Text → GValue → Option QueryFault
@@ -239,12 +238,12 @@ module _ (vars : List Variable) where
     one_pair_fault table (p ∷ []) = initial_pair_fault table p (column_seen v table (pair_name p))
     one_pair_fault table (p ∷ q ∷ ps) = bad_cursor
 
+    abbrev pub is_direction : Option Text → Bool
+    is_direction (Some name) = bytes_eq name (codes "ASC") || bytes_eq name (codes "DESC")
+    is_direction None = false
+
     abbrev pub is_ordering : GValue → Bool
-    is_ordering x = is_null_literal x || spelt (enum_in x)
-      where
-        spelt : Option Text → Bool
-        spelt (Some name) = bytes_eq name (codes "ASC") || bytes_eq name (codes "DESC")
-        spelt None = false
+    is_ordering x = is_null_literal x || is_direction (enum_in x)
 
     abbrev pub cursor_key_fault : ℕ → GPair → Option QueryFault
     cursor_key_fault table p =
@@ -292,21 +291,17 @@ module _ (vars : List Variable) where
     key_names table = map (λ column. column_name v table column) (key_columns v table)
 
     abbrev pub key_kind : ℕ → Text → Kind
-    key_kind table name = kind_at (column_seen v table name)
-      where
-        kind_at : Option ℕ → Kind
-        kind_at (Some column) = kind_of v table column
-        kind_at None = kind.Text
+    key_kind table name = unwrap_or (option_map (kind_of v table) (column_seen v table name)) kind.Text
 
     abbrev pub key_arguments : ℕ → Known
     key_arguments table name = if list_any (bytes_eq name) (key_names table) then Some (single_fault name (key_kind table name)) else None
 
+    abbrev pub known_fault : GPair → Option (GValue → Option QueryFault) → Option QueryFault
+    known_fault p (Some judge) = judge (pair_value p)
+    known_fault p None = refused fault.NoArgument (pair_name p)
+
     abbrev pub judged_by : Known → GPair → Option QueryFault
-    judged_by known p = by_known (known (pair_name p))
-      where
-        by_known : Option (GValue → Option QueryFault) → Option QueryFault
-        by_known (Some judge) = judge (pair_value p)
-        by_known None = refused fault.NoArgument (pair_name p)
+    judged_by known p = known_fault p (known (pair_name p))
 
     abbrev pub arguments_fault : Known → List GPair → Option QueryFault
     arguments_fault known args = pairs_fault (refusal fault.NoArgument) (judged_by known) [] args
@@ -332,15 +327,15 @@ module _ (vars : List Variable) where
     abbrev pub link_arguments : LinkDef → Known
     link_arguments l = if l.many then list_arguments l.table else no_arguments
 
+    abbrev pub meant_fault : FlatField-F (ℕ → Option QueryFault) → Meant → Option QueryFault
+    meant_fault f Typename = scalar_fault f
+    meant_fault f (AColumn column) = scalar_fault f
+    meant_fault f (ALink l) = object_fault (link_arguments l) [] l.table f
+    meant_fault f Unseen = refused fault.NoField f.name
+
     -- a field in an object of a table
     abbrev pub field_fault_step : FlatField-F (ℕ → Option QueryFault) → ℕ → Option QueryFault
-    field_fault_step f table = by_meaning (meant v table f.name)
-      where
-        by_meaning : Meant → Option QueryFault
-        by_meaning Typename = scalar_fault f
-        by_meaning (AColumn column) = scalar_fault f
-        by_meaning (ALink l) = object_fault (link_arguments l) [] l.table f
-        by_meaning Unseen = refused fault.NoField f.name
+    field_fault_step f table = meant_fault f (meant v table f.name)
 
     abbrev pub field_fault : FlatField → ℕ → Option QueryFault
     field_fault = fold-FlatField (ℕ → Option QueryFault) field_fault_step
@@ -383,13 +378,13 @@ variables_of values (x ∷ xs) = with_variable x.name (variable_of values x) (va
 
 -- ---- session slots, in their order
 
+abbrev pub spelled_value : SessionSlot → Option Val → Result SessionValue QueryFault
+spelled_value s (Some x) = Ok (record { slot = s; value = x })
+spelled_value s None = Err (refusal fault.BadSession s.name)
+
 abbrev pub slot_value : SessionSlot → Option Text → Result SessionValue QueryFault
 slot_value s None = Err (refusal fault.MissingSession s.name)
-slot_value s (Some text) = spelt (spelled s.kind text)
-  where
-    spelt : Option Val → Result SessionValue QueryFault
-    spelt (Some x) = Ok (record { slot = s; value = x })
-    spelt None = Err (refusal fault.BadSession s.name)
+slot_value s (Some text) = spelled_value s (spelled s.kind text)
 
 abbrev pub with_slot : Result SessionValue QueryFault → Result (List SessionValue) QueryFault → Result (List SessionValue) QueryFault
 with_slot (Err e) others = Err e

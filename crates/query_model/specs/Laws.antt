@@ -101,12 +101,13 @@ stream_by v (RowsOf table) args = None
 stream_by v (RowOf table) args = None
 stream_by v NoRoot args = None
 
+abbrev pub stream_in : Metadata → Query → List FlatField → Option Stream
+stream_in m q (f ∷ []) = stream_by (view_of m q) (root_of (view_of m q) q.selection.kind f) (out-FlatField f).args
+stream_in m q [] = None
+stream_in m q (f ∷ g ∷ fs) = None
+
 abbrev pub stream_of : Metadata → Query → Option Stream
-stream_of m q = stream_in q.selection.fields
-  where
-    stream_in : List FlatField → Option Stream
-    stream_in (f ∷ []) = stream_by (view_of m q) (root_of (view_of m q) q.selection.kind f) (out-FlatField f).args
-    stream_in _ = None
+stream_of m q = stream_in m q q.selection.fields
 
 -- the rows that a stream gives beyond a cursor
 abbrev pub next_rows : Metadata → Query → Stream → Val → Database → Rows
@@ -147,14 +148,23 @@ abbrev pub AllUpTo : ℕ → List ℕ → Type 0
 AllUpTo most [] = Unit {0}
 AllUpTo most (v ∷ vs) = (v ≤ most) × AllUpTo most vs
 
+abbrev pub is_whole_key : ℕ → List ℕ → Bool
+is_whole_key column [] = false
+is_whole_key column (c ∷ []) = c == column
+is_whole_key column (c ∷ d ∷ cs) = false
+
 -- no two rows have one value in the column: it is `unique`, or the whole key
 abbrev pub is_unique : Stream → Option TableDef → Bool
-is_unique s (Some t) = list_any (λ column. column == s.column) t.unique || is_whole t.key
-  where
-    is_whole : List ℕ → Bool
-    is_whole (column ∷ []) = column == s.column
-    is_whole _ = false
+is_unique s (Some t) = list_any (λ column. column == s.column) t.unique || is_whole_key s.column t.key
 is_unique s None = false
+
+abbrev pub after_change : Database → Result Database Reason → Database
+after_change before (Ok after) = after
+after_change before (Err reason) = before
+
+abbrev pub is_refused : Result Database TxFault → Bool
+is_refused (Ok after) = false
+is_refused (Err fault) = true
 
 module _ (m : Metadata) (q : Query) (s : Stream) where
   abbrev pub stream_table : Text
@@ -173,19 +183,11 @@ module _ (m : Metadata) (q : Query) (s : Stream) where
   abbrev pub all_append : Database → List TxChange → Bool
   all_append db [] = true
   all_append db (c ∷ cs) = appends db c && all_append (after_change db (change m.catalog db c)) cs
-    where
-      after_change : Database → Result Database Reason → Database
-      after_change before (Ok after) = after
-      after_change before (Err reason) = before
 
   -- the changes of each transaction do; a refused one changes nothing
   abbrev pub transactions_append : Database → List (List TxChange) → Bool
   transactions_append db [] = true
   transactions_append db (tx ∷ txs) = (is_refused (apply m.catalog db tx) || all_append db tx) && transactions_append (after_or_same db (apply m.catalog db tx)) txs
-    where
-      is_refused : Result Database TxFault → Bool
-      is_refused (Ok after) = false
-      is_refused (Err fault) = true
 
 -- What a stream sends exactly once: from the version at which it was asked for, its column is unique and its table only
 -- grows, beyond every value that is present.

@@ -100,12 +100,9 @@ planned p b db = result_of db p.key (select_wanted b any_row (out-Select p.root)
 -- ---- a plan fits a catalog: all tables and columns are there, and a stream stands at the root alone
 
 module _ (catalog : Catalog) where
+  -- how many columns a table has
   abbrev pub width : ℕ → ℕ
-  width table = columns_of_table (slice_get catalog.tables table)
-    where
-      columns_of_table : Option TableDef → ℕ
-      columns_of_table (Some t) = length t.columns
-      columns_of_table None = 0
+  width table = unwrap_or (option_map (λ (t : TableDef). length t.columns) (slice_get catalog.tables table)) 0
 
   abbrev pub has_column : ℕ → ℕ → Bool
   has_column table column = nat_lt column (width table)
@@ -163,11 +160,7 @@ module _ (b : Binding) where
 
   -- an integer that isn't below the least
   abbrev pub is_number : ℕ → Val → Bool
-  is_number least x = at_least (number_in x)
-    where
-      at_least : Option ℕ → Bool
-      at_least (Some n) = nat_le least n
-      at_least None = false
+  is_number least x = unwrap_or (option_map (nat_le least) (number_in x)) false
 
   abbrev pub count_fits : Option Operand → Bool
   count_fits (Some o) = operand_fits b o && (is_null (operand_value b o) || is_number 0 (operand_value b o))
@@ -211,24 +204,24 @@ reads p db = select_reads db p.root
 
 -- ---- the plan of a selection, for a role
 
--- the slot of a variable is its place among those of the canonical text
-abbrev pub variable_operand : List Text → GValue → Operand → Operand
-variable_operand names x other = named_by (variable_in x)
-  where
-    named_by : Option Text → Operand
-    named_by (Some name) = Var (slot_of names name)
-    named_by None = other
-
 module _ (v : View) (names : List Text) (slots : List SessionSlot) where
+  abbrev pub operand_by : Operand → Option Text → Operand
+  operand_by other (Some name) = Var (slot_of names name)
+  operand_by other None = other
+
+  -- the slot of a variable is its place among those of the canonical text
   abbrev pub operand_of : Kind → GValue → Operand
-  operand_of k x = variable_operand names x (Const (literal_value k x))
+  operand_of k x = operand_by (Const (literal_value k x)) (variable_in x)
+
+  abbrev pub items_by : Items → Option Text → Items
+  items_by others (Some name) = items.Var (slot_of names name)
+  items_by others None = others
+
+  abbrev pub items_of : Kind → GValue → Items
+  items_of k x = items_by (items.Each (map (operand_of k) (items_in x))) (variable_in x)
 
   abbrev pub operands : Reader
-  operands = record { one = operand_of; many = λ k x. many_by k x (variable_in x) }
-    where
-      many_by : Kind → GValue → Option Text → Items
-      many_by k x (Some name) = items.Var (slot_of names name)
-      many_by k x None = items.Each (map (operand_of k) (items_in x))
+  operands = record { one = operand_of; many = items_of }
 
   -- the slot of a session variable is its place among those of the selection
   abbrev pub slotting : Change
@@ -236,12 +229,13 @@ module _ (v : View) (names : List Text) (slots : List SessionSlot) where
   slotting table column (Const x) = Const x
   slotting table column (Var slot) = Var slot
 
+  abbrev pub permission_by : ℕ → Option Filter → List Filter
+  permission_by table (Some f) = changed slotting table f ∷ []
+  permission_by table None = []
+
+  -- the role's filter of a table, if there is one
   abbrev pub permission : ℕ → List Filter
-  permission table = filters_of (filter_seen v table)
-    where
-      filters_of : Option Filter → List Filter
-      filters_of (Some f) = changed slotting table f ∷ []
-      filters_of None = []
+  permission table = permission_by table (filter_seen v table)
 
   -- null is as if the argument weren't there
   abbrev pub count_operand : Option GValue → Option Operand
@@ -257,12 +251,13 @@ module _ (v : View) (names : List Text) (slots : List SessionSlot) where
   abbrev pub one_select : ℕ → List Filter → List Field → Select
   one_select table conditions fields = roll-Select (record { table = table; shape = shape.One; filter = filter.And (conditions ++ permission table); order = []; limit = None; offset = None; cap = None; fields = fields })
 
+  abbrev pub column_condition : ℕ → ℕ → Option GValue → Filter
+  column_condition table column (Some x) = filter.Cmp column Eq (operand_of (kind_of v table column) x)
+  column_condition table column None = filter.Or []
+
+  -- a key column equals the argument of its name
   abbrev pub key_condition : ℕ → List GPair → ℕ → Filter
-  key_condition table args column = equals (argument (column_name v table column) args)
-    where
-      equals : Option GValue → Filter
-      equals (Some x) = filter.Cmp column Eq (operand_of (kind_of v table column) x)
-      equals None = filter.Or []
+  key_condition table args column = column_condition table column (argument (column_name v table column) args)
 
   abbrev pub batch_operand : Option GValue → Operand
   batch_operand (Some x) = operand_of kind.Int x
@@ -274,17 +269,19 @@ module _ (v : View) (names : List Text) (slots : List SessionSlot) where
     filter = filter.And (where_filter v operands table (argument (codes "where") args) ∷ permission table);
     order = []; limit = None; offset = None; cap = cap_seen v table; fields = fields })
 
-  -- a field in an object of a table; a name that the role doesn't see isn't admitted
+  abbrev pub link_select : LinkDef → List GPair → List Field → Select
+  link_select l args fields = if l.many then list_select l.table args fields else one_select l.table [] fields
+
+  -- a name that the role doesn't see isn't admitted
+  abbrev pub meant_field : FlatField-F (ℕ → Field) → Meant → Field
+  meant_field f Typename = field.Typename f.key
+  meant_field f (AColumn column) = field.Column f.key column
+  meant_field f (ALink l) = field.Link f.key l.from l.to (link_select l f.args (map (λ (g : ℕ → Field). g l.table) f.fields))
+  meant_field f Unseen = field.Typename f.key
+
+  -- a field in an object of a table
   abbrev pub plan_step : FlatField-F (ℕ → Field) → ℕ → Field
-  plan_step f table = planned_by (meant v table f.name)
-    where
-      planned_by : Meant → Field
-      planned_by Typename = field.Typename f.key
-      planned_by (AColumn column) = field.Column f.key column
-      planned_by (ALink l) =
-          let inner = map (λ (g : ℕ → Field). g l.table) f.fields in
-          field.Link f.key l.from l.to (if l.many then list_select l.table f.args inner else one_select l.table [] inner)
-      planned_by Unseen = field.Typename f.key
+  plan_step f table = meant_field f (meant v table f.name)
 
   abbrev pub plan_field : ℕ → FlatField → Field
   plan_field table f = fold-FlatField (ℕ → Field) plan_step f table
@@ -298,14 +295,18 @@ module _ (v : View) (names : List Text) (slots : List SessionSlot) where
 abbrev pub table_names : View → List Text
 table_names v = map (λ (t : TableDef). t.name) v.metadata.catalog.tables
 
+abbrev pub plan_with : View → Text → Select → Plan
+plan_with v key root = record { key = key; names = table_names v; root = root }
+
+abbrev pub field_plan : View → Flat → FlatField → Option Plan
+field_plan v s f = option_map (plan_with v (out-FlatField f).key) (root_select v (text_variables s) (selection_slots v s) (root_of v s.kind f) (out-FlatField f))
+
+abbrev pub root_plan : View → Flat → List FlatField → Option Plan
+root_plan v s (f ∷ []) = field_plan v s f
+root_plan v s [] = None
+root_plan v s (f ∷ g ∷ fs) = None
+
 -- The plan is made of the metadata, the role and the selection alone. There is one where the root has one field, which the
 -- role sees.
 abbrev pub plan_of : View → Flat → Option Plan
-plan_of v s = plan_in s.fields
-  where
-    plan_with : FlatField → Option Select → Option Plan
-    plan_with f (Some root) = Some (record { key = (out-FlatField f).key; names = table_names v; root = root })
-    plan_with f None = None
-    plan_in : List FlatField → Option Plan
-    plan_in (f ∷ []) = plan_with f (root_select v (text_variables s) (selection_slots v s) (root_of v s.kind f) (out-FlatField f))
-    plan_in _ = None
+plan_of v s = root_plan v s s.fields

@@ -86,25 +86,25 @@ module _ (m : Metadata) (q : Query) where
   closing table column (Const x) = Const x
   closing table column (Var slot) = Var slot
 
+  abbrev pub permitted_by : ℕ → Row → Option Filter → Bool
+  permitted_by table row (Some f) = is_met (changed closing table f) row
+  permitted_by table row None = true
+
   -- the role's filter of a table is yes, or there is none
   abbrev pub is_permitted : ℕ → Row → Bool
-  is_permitted table row = permitted_by (filter_seen view table)
-    where
-      permitted_by : Option Filter → Bool
-      permitted_by (Some f) = is_met (changed closing table f) row
-      permitted_by None = true
+  is_permitted table row = permitted_by table row (filter_seen view table)
 
   -- `where` is yes
   abbrev pub is_asked : ℕ → List GPair → Row → Bool
   is_asked table args row = is_met (where_filter view values table (argument (codes "where") args)) row
 
+  abbrev pub column_equals : ℕ → Row → ℕ → Option GValue → Bool
+  column_equals table row column (Some x) = is_yes (compared Eq (cell row column) (value_read q.variables (kind_of view table column) x))
+  column_equals table row column None = false
+
   -- the key columns equal the arguments of their names
   abbrev pub has_key_given : ℕ → List GPair → Row → Bool
-  has_key_given table args row = list_all (λ column. equals column (argument (column_name view table column) args)) (key_columns view table)
-    where
-      equals : ℕ → Option GValue → Bool
-      equals column (Some x) = is_yes (compared Eq (cell row column) (value_read q.variables (kind_of view table column) x))
-      equals column None = false
+  has_key_given table args row = list_all (λ column. column_equals table row column (argument (column_name view table column) args)) (key_columns view table)
 
   abbrev pub list_extent : ℕ → List GPair → Extent
   list_extent table args =
@@ -131,16 +131,16 @@ module _ (m : Metadata) (q : Query) where
       else record { table = l.table; shown = λ row. joins l.from l.to parent row && is_permitted l.table row; extent = First; cap = None }
 
   module _ (db : Database) where
-    -- a field's key and value in the object of a row: a column's value, the table's name, or what the relationship gives
-    -- with this row as parent
+    -- a column's value, the table's name, or what a relationship gives with this row as parent
+    abbrev pub value_text : FlatField-F Pair → ℕ → Row → Meant → Text
+    value_text f table row Typename = quoted_text (type_name view table)
+    value_text f table row (AColumn column) = val_text (cell row column)
+    value_text f table row (ALink l) = wanted_text db (link_wanted l f.args row) f.fields
+    value_text f table row Unseen = null_text
+
+    -- a field's key and value in the object of a row
     abbrev pub pair_step : FlatField-F Pair → Pair
-    pair_step f table row = named_text (quoted_text f.key) (value_by (meant view table f.name))
-      where
-        value_by : Meant → Text
-        value_by Typename = quoted_text (type_name view table)
-        value_by (AColumn column) = val_text (cell row column)
-        value_by (ALink l) = wanted_text db (link_wanted l f.args row) f.fields
-        value_by Unseen = null_text
+    pair_step f table row = named_text (quoted_text f.key) (value_text f table row (meant view table f.name))
 
     abbrev pub pair_of : FlatField → Pair
     pair_of = fold-FlatField Pair pair_step
@@ -155,21 +155,18 @@ module _ (m : Metadata) (q : Query) where
   abbrev pub no_result : Result
   no_result = record { text = []; rows = 0; last = val.Null }
 
+  abbrev pub result_by : Database → FlatField-F FlatField → Option Wanted → Result
+  result_by db f (Some w) = result_of db f.key w (map (pair_of db) f.fields)
+  result_by db f None = no_result
+
   abbrev pub field_result : Val → Database → FlatField → Result
-  field_result cursor db f = result_by (root_wanted cursor (root_of view q.selection.kind f) (out-FlatField f).args)
-    where
-      result_by : Option Wanted → Result
-      result_by (Some w) = result_of db (out-FlatField f).key w (map (pair_of db) (out-FlatField f).fields)
-      result_by None = no_result
+  field_result cursor db f = result_by db (out-FlatField f) (root_wanted cursor (root_of view q.selection.kind f) (out-FlatField f).args)
 
   -- a query has one root field
-  abbrev pub first_field : List FlatField → Option FlatField
-  first_field [] = None
-  first_field (f ∷ fs) = Some f
+  abbrev pub root_result : Val → Database → List FlatField → Result
+  root_result cursor db (f ∷ []) = field_result cursor db f
+  root_result cursor db [] = no_result
+  root_result cursor db (f ∷ g ∷ fs) = no_result
 
   abbrev pub result : Val → Database → Result
-  result cursor db = result_in (first_field q.selection.fields)
-    where
-      result_in : Option FlatField → Result
-      result_in (Some f) = field_result cursor db f
-      result_in None = no_result
+  result cursor db = root_result cursor db q.selection.fields
