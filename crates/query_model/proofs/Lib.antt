@@ -4,3 +4,4 @@ mod ResultRows
 mod AdmissionRows
 mod UsualClient
 mod PlanRows
+mod VariableRows

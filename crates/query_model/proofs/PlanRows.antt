@@ -22,8 +22,8 @@ use Rattle.role_model.proofs.Truths.{truths}
 use Rattle.request_model.specs.declared.document.GValue.TheVariants as v
 use Rattle.request_model.specs.declared.flat.Flat.{Flat}
 use Rattle.request_model.proofs.SelectionRules.{canonical_texts}
-use Rattle.query_model.specs.Plans.{plan_of}
-use Rattle.query_model.proofs.QueryRules.{queries}
+use Rattle.query_model.specs.Plans.{plan_of, planned, reads}
+use Rattle.query_model.proofs.QueryRules.{queries, plans}
 use Rattle.query_model.proofs.Samples.{posts, leaf, node, subscription, pair, one, order_by, int, text, post}
 
 abbrev as_reader : View
@@ -50,3 +50,16 @@ chosen_plan = record { key = codes "post"; names = codes "user" ∷ codes "post"
 
 plan : plan_of as_reader chosen_posts ≡ Some chosen_plan
 plan = simp (queries, canonical_texts)
+
+-- on two posts of author 1 the limit of 1 takes the first by title
+abbrev bound : Binding
+bound = record { vars = Many (int 1 ∷ int 2 ∷ int 3 ∷ []) ∷ One (int 1) ∷ []; session = int 1 ∷ []; cursor = val.Null }
+
+abbrev three_posts : Database
+three_posts = ((int 1 ∷ val.Null ∷ []) ∷ []) ∷ (post 1 (int 1) (codes "b") ∷ post 2 (int 1) (codes "a") ∷ post 3 (int 2) (codes "A") ∷ []) ∷ []
+
+planned_text : planned chosen_plan bound three_posts ≡
+    record { text = codes "{\"data\":{\"post\":[{\"id\":2,\"author\":{\"__typename\":\"user\"}}]}}"; rows = 1; last = val.Null }
+unfolding digits escape_byte
+planned_text = simp (plans, truths)
+

@@ -10,13 +10,20 @@ use Rattle.role_model.specs.declared.filter.Filter.TheFolds.{fold-Filter, fold-r
 use Rattle.role_model.specs.declared.filter.Items.{Items}
 use Rattle.role_model.specs.declared.filter.Op.{Op}
 use Rattle.role_model.specs.declared.filter.Operand.{Operand}
+use Rattle.role_model.specs.declared.plan.Field.{Field}
+use Rattle.role_model.specs.declared.plan.Field.TheVariants as field
+use Rattle.role_model.specs.declared.plan.Field.TheVariants.{rolls-Column, rolls-Typename, rolls-Link}
+use Rattle.role_model.specs.declared.plan.Field.TheOpen.{Field-F, Select-F}
+use Rattle.role_model.specs.declared.plan.Field.TheViews.{roll-Select, out-roll-Select}
+use Rattle.role_model.specs.declared.plan.Field.TheFolds.{fold-Field, fold-Select, map-Select, fold-roll-Field, fold-roll-Select}
+use Rattle.role_model.specs.declared.plan.Select.{Select}
 use Rattle.role_model.specs.Roles.{View}
 use Rattle.request_model.specs.declared.document.GValue.{GValue}
 use Rattle.request_model.specs.declared.document.GValue.TheOpen.{GValue-F}
 use Rattle.request_model.specs.declared.document.GValue.TheVariants as v
 use Rattle.request_model.specs.declared.document.GValue.TheVariants.{rolls-Many, rolls-Object, rolls-Var, rolls-Int, rolls-Null, rolls-Enum}
-use Rattle.request_model.specs.declared.document.GValue.TheViews.{out-GPair, roll-GPair, roll-GValue, roll-out-GPair}
-use Rattle.request_model.specs.declared.document.GValue.TheFolds.{para-GValue, para-GPair, para-roll-GValue, para-roll-GPair, fold-GValue, fold-GPair, fold-roll-GValue, fold_out-GPair}
+use Rattle.request_model.specs.declared.document.GValue.TheViews.{out-GValue, roll-out-GValue, out-GPair, roll-GPair, roll-GValue, roll-out-GPair}
+use Rattle.request_model.specs.declared.document.GValue.TheFolds.{map-GValue, para-GValue, para-GPair, para-roll-GValue, para-roll-GPair, fold-GValue, fold-GPair, fold-roll-GValue, fold_out-GPair}
 use Rattle.request_model.specs.declared.document.GPair.{GPair}
 use Rattle.request_model.specs.declared.document.TypeRef.TheViews.{outs-Named, outs-Listed}
 use Rattle.request_model.specs.declared.flat.FlatField.{FlatField}
@@ -85,6 +92,11 @@ module _ (w : View) (r : Reader) where
       ∙ ap (λ (g : Filter). filter.And (g ∷ [])) (key-is (roll-GPair (record { name = codes "_not"; value = x })) table)
       ∙ ap (λ (g : Filter). filter.And (filter.Not g ∷ [])) is
 
+  -- each form at once: what the value's own layer gives, with its parts read
+  pub conditions-is : (x : GValue) → conditions_in w r x ≡ conditions_step w r (map-GValue GValue GPair (GValue × Conditions) (GPair × (ℕ → Filter)) (λ y. (y, conditions_in w r y)) (λ p. (p, condition_at w r p)) (out-GValue x))
+  unfolding conditions_in condition_at
+  conditions-is x = ap (conditions_in w r) (sym (roll-out-GValue x)) ∙ para-roll-GValue Conditions (ℕ → Filter) (conditions_step w r) (key_filter w r) (out-GValue x)
+
 -- ---- the walk over conditions
 
 module _ (vars : List Variable) (w : View) where
@@ -128,6 +140,11 @@ module _ (vars : List Variable) (w : View) where
       ap (λ (x : GValue). (judged vars w x).many blamed table) (sym rolls-Null)
       ∙ ap (λ (c : Judged). c.many blamed table) (para-roll-GValue Judged (ℕ → Option QueryFault) (condition_step vars w) (key_fault vars w) _)
 
+  -- each form at once
+  pub judged-is : (x : GValue) → judged vars w x ≡ condition_step vars w (map-GValue GValue GPair (GValue × Judged) (GPair × (ℕ → Option QueryFault)) (λ y. (y, judged vars w y)) (λ p. (p, judged_at vars w p)) (out-GValue x))
+  unfolding judged judged_at
+  judged-is x = ap (judged vars w) (sym (roll-out-GValue x)) ∙ para-roll-GValue Judged (ℕ → Option QueryFault) (condition_step vars w) (key_fault vars w) (out-GValue x)
+
 -- ---- the names of variables in values
 
 pub names-Var : (name : Text) → value_names (v.Var name) ≡ name ∷ []
@@ -150,5 +167,34 @@ names-Object pairs = ap value_names (sym (rolls-Object pairs)) ∙ fold-roll-GVa
 
 pub names-pair : (p : GPair) → fold-GPair (List Text) (List Text) value_names_step pair_names_step p ≡ value_names (out-GPair p).value
 names-pair p = fold_out-GPair (List Text) (List Text) value_names_step pair_names_step p
+
+-- ---- plans
+
+module _ {A : Type 0} (step : Field-F (ℕ → Row → A) ((Row → Bool) → A) → ℕ → Row → A) (select_step : Select-F (ℕ → Row → A) ((Row → Bool) → A) → (Row → Bool) → A) where
+  abbrev folded_field : Field → ℕ → Row → A
+  folded_field = fold-Field (ℕ → Row → A) ((Row → Bool) → A) step select_step
+
+  pub field-Column : (key : Text) (column table : ℕ) (row : Row) →
+      fold-Field (ℕ → Row → A) ((Row → Bool) → A) step select_step (field.Column key column) table row ≡ step (Field-F.Column key column) table row
+  field-Column key column table row =
+      ap (λ (f : Field). folded_field f table row) (sym (rolls-Column key column)) ∙ ap (λ (g : ℕ → Row → A). g table row) (fold-roll-Field (ℕ → Row → A) ((Row → Bool) → A) step select_step _)
+
+  pub field-Typename : (key : Text) (table : ℕ) (row : Row) →
+      fold-Field (ℕ → Row → A) ((Row → Bool) → A) step select_step (field.Typename key) table row ≡ step (Field-F.Typename key) table row
+  field-Typename key table row =
+      ap (λ (f : Field). folded_field f table row) (sym (rolls-Typename key)) ∙ ap (λ (g : ℕ → Row → A). g table row) (fold-roll-Field (ℕ → Row → A) ((Row → Bool) → A) step select_step _)
+
+  pub field-Link : (key : Text) (from to : List ℕ) (select : Select) (table : ℕ) (row : Row) →
+      fold-Field (ℕ → Row → A) ((Row → Bool) → A) step select_step (field.Link key from to select) table row ≡
+      step (Field-F.Link key from to (fold-Select (ℕ → Row → A) ((Row → Bool) → A) step select_step select)) table row
+  field-Link key from to select table row =
+      ap (λ (f : Field). folded_field f table row) (sym (rolls-Link key from to select)) ∙ ap (λ (g : ℕ → Row → A). g table row) (fold-roll-Field (ℕ → Row → A) ((Row → Bool) → A) step select_step _)
+
+  pub select-rolled : (s : Select-F Field Select) (allowed : Row → Bool) →
+      fold-Select (ℕ → Row → A) ((Row → Bool) → A) step select_step (roll-Select s) allowed ≡
+      select_step (map-Select Field Select (ℕ → Row → A) ((Row → Bool) → A) (fold-Field (ℕ → Row → A) ((Row → Bool) → A) step select_step) (fold-Select (ℕ → Row → A) ((Row → Bool) → A) step select_step) s) allowed
+  select-rolled s allowed = ap (λ (g : (Row → Bool) → A). g allowed) (fold-roll-Select (ℕ → Row → A) ((Row → Bool) → A) step select_step s)
+
+pub ruleset plans = (field-Column, field-Typename, field-Link, select-rolled, out-roll-Select)
 
 pub ruleset queries = (outs-Named, outs-Listed, fold-in, fold-at, out-roll-FlatField, filter-And, filter-Or, filter-Cmp, object-one, key-is, judged-object, judged-key, judged-Var, judged-Int, judged-Many, judged-many-null, names-Var, names-Int, names-Null, names-Enum, names-Many, names-Object, names-pair)
