@@ -1,11 +1,8 @@
 -- Worked rows of refusals.
-use Rattle.std.proofs.Common.{◌≡◌, ℕ, List, [], ◌∷◌, map, Option, Some, None, Result, Ok, Err, true, false, refl}
+use Rattle.std.proofs.Common.{◌≡◌, List, [], ◌∷◌, map, None, Result, Err, true, refl}
 use Rattle.std.specs.Prelude.{codes}
 use Rattle.std.specs.Fmt.{digits}
 use Rattle.serde_json.specs.Data.{no_members}
-use Rattle.role_model.specs.declared.metadata.Metadata.{Metadata}
-use Rattle.role_model.specs.declared.session.Session.{Session}
-use Rattle.role_model.proofs.Truths.{truths}
 use Rattle.request_model.specs.declared.document.GValue.{GValue}
 use Rattle.request_model.specs.declared.document.GValue.TheVariants as v
 use Rattle.request_model.specs.declared.document.GPair.{GPair}
@@ -47,18 +44,22 @@ null_operand = simp (queries, canonical_texts)
 -- subscription($i: Int!) { user_by_pk(id: $i) { id name } }, without variables
 missing_variable : admitted users admin no_members
     (subscription (record { name = codes "i"; kind = type.Named (codes "Int") true; default = None; directives = [] } ∷ [])
-        (node (codes "user_by_pk") (pair (codes "id") (v.Var (codes "i")) ∷ []) id)) ≡ refuses fault.MissingVariable (codes "i")
+    (node (codes "user_by_pk") (pair (codes "id") (v.Var (codes "i")) ∷ []) id)) ≡ refuses fault.MissingVariable (codes "i")
 missing_variable = simp (queries, canonical_texts)
 
 -- subscription { user_stream(batch_size: 1, cursor: {initial_value: {name: "a"}}) { id } }
 bad_cursor : admitted users admin no_members
     (subscription [] (node (codes "user_stream")
-        (pair (codes "batch_size") (v.Int (codes "1")) ∷ pair (codes "cursor") (one (codes "initial_value") (one (codes "name") (v.Text (codes "a")))) ∷ []) id)) ≡ refuses fault.BadCursor (codes "cursor")
+    (pair (codes "batch_size") (v.Int (codes "1")) ∷ pair (codes "cursor") (one (codes "initial_value") (one (codes "name") (v.Text (codes "a")))) ∷ []) id)) ≡ refuses fault.BadCursor (codes "cursor")
 bad_cursor = simp (queries, canonical_texts)
 
 -- subscription { user { id } user_by_pk(id: 1) { id } }
-two_roots : admitted users admin no_members (record { kind = word.Subscription; vars = []; conditions = [];
-    fields = node (codes "user") [] id ∷ node (codes "user_by_pk") (pair (codes "id") (v.Int (codes "1")) ∷ []) id ∷ [] }) ≡ refuses fault.NotOneRoot []
+two_roots : admitted users admin no_members (record {
+  kind = word.Subscription;
+  vars = [];
+  conditions = [];
+  fields = node (codes "user") [] id ∷ node (codes "user_by_pk") (pair (codes "id") (v.Int (codes "1")) ∷ []) id ∷ [];
+}) ≡ refuses fault.NotOneRoot []
 two_roots = refl
 
 -- subscription { post { id title } }, by a reader without a user id, and with one that is no number

@@ -5,3 +5,4 @@ mod AdmissionRows
 mod UsualClient
 mod PlanRows
 mod VariableRows
+mod StreamRows

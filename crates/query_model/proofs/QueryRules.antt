@@ -1,5 +1,5 @@
 -- Conditions, admission and results, an equation for each form.
-use Rattle.std.proofs.Common.{◌≡◌, ◌∙◌, ℕ, Bool, List, [], ◌∷◌, map, Option, refl, ap, sym}
+use Rattle.std.proofs.Common.{◌≡◌, ◌∙◌, ℕ, Bool, List, [], ◌∷◌, map, Option, ap, sym}
 use Rattle.std.specs.Prelude.{codes}
 use Rattle.data_model.specs.Rows.{Row}
 use Rattle.role_model.specs.declared.filter.Filter.{Filter}
@@ -7,7 +7,6 @@ use Rattle.role_model.specs.declared.filter.Filter.TheVariants as filter
 use Rattle.role_model.specs.declared.filter.Filter.TheVariants.{rolls-And, rolls-Or, rolls-Not, rolls-Cmp, rolls-Among, rolls-IsNull}
 use Rattle.role_model.specs.declared.filter.Filter.TheOpen.{Filter-F}
 use Rattle.role_model.specs.declared.filter.Filter.TheFolds.{fold-Filter, fold-roll-Filter}
-use Rattle.role_model.specs.declared.filter.Items.{Items}
 use Rattle.role_model.specs.declared.filter.Op.{Op}
 use Rattle.role_model.specs.declared.filter.Operand.{Operand}
 use Rattle.role_model.specs.declared.plan.Field.{Field}
@@ -19,11 +18,10 @@ use Rattle.role_model.specs.declared.plan.Field.TheFolds.{fold-Field, fold-Selec
 use Rattle.role_model.specs.declared.plan.Select.{Select}
 use Rattle.role_model.specs.Roles.{View}
 use Rattle.request_model.specs.declared.document.GValue.{GValue}
-use Rattle.request_model.specs.declared.document.GValue.TheOpen.{GValue-F}
 use Rattle.request_model.specs.declared.document.GValue.TheVariants as v
 use Rattle.request_model.specs.declared.document.GValue.TheVariants.{rolls-Many, rolls-Object, rolls-Var, rolls-Int, rolls-Null, rolls-Enum}
-use Rattle.request_model.specs.declared.document.GValue.TheViews.{out-GValue, roll-out-GValue, out-GPair, roll-GPair, roll-GValue, roll-out-GPair}
-use Rattle.request_model.specs.declared.document.GValue.TheFolds.{map-GValue, para-GValue, para-GPair, para-roll-GValue, para-roll-GPair, fold-GValue, fold-GPair, fold-roll-GValue, fold_out-GPair}
+use Rattle.request_model.specs.declared.document.GValue.TheViews.{out-GValue, roll-out-GValue, out-GPair, roll-GPair, roll-out-GPair}
+use Rattle.request_model.specs.declared.document.GValue.TheFolds.{map-GValue, para-roll-GValue, para-roll-GPair, fold-GPair, fold-roll-GValue, fold_out-GPair}
 use Rattle.request_model.specs.declared.document.GPair.{GPair}
 use Rattle.request_model.specs.declared.document.TypeRef.TheViews.{outs-Named, outs-Listed}
 use Rattle.request_model.specs.declared.flat.FlatField.{FlatField}
@@ -33,8 +31,8 @@ use Rattle.request_model.specs.declared.flat.FlatField.TheFolds.{fold-FlatField,
 use Rattle.request_model.specs.Strings.{Text}
 use Rattle.request_model.specs.Selection.{concatenated}
 use Rattle.query_model.specs.declared.fault.QueryFault.{QueryFault}
-use Rattle.query_model.specs.Conditions.{Reader, Conditions, conditions_in, condition_at, conditions_step, key_filter, always}
-use Rattle.query_model.specs.Admission.{Judged, judged, judged_at, condition_step, key_fault, keys_fault, first_of, refused}
+use Rattle.query_model.specs.Conditions.{Reader, Conditions, conditions_in, condition_at, conditions_step, key_filter}
+use Rattle.query_model.specs.Admission.{Judged, judged, judged_at, condition_step, key_fault, keys_fault, refused}
 use Rattle.query_model.specs.declared.fault.FaultKind.TheVariants as fault
 use Rattle.query_model.specs.Variables.{Variable}
 use Rattle.query_model.specs.Queries.{value_names, value_names_step, pair_names_step}

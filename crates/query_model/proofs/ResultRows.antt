@@ -1,5 +1,5 @@
 -- Worked rows of results.
-use Rattle.std.proofs.Common.{◌≡◌, ℕ, zero, suc, ◌+◌, Bool, List, [], ◌∷◌, ◌++◌, map, Option, Some, None, Ok, true, false, pos, neg_ℤ, refl}
+use Rattle.std.proofs.Common.{◌≡◌, ℕ, zero, suc, ◌+◌, List, [], ◌∷◌, ◌++◌, map, None, Ok, true, false, pos, neg_ℤ}
 use Rattle.std.specs.Prelude.{codes}
 use Rattle.std.specs.Fmt.{digits}
 use Rattle.json.specs.Print.{escape_byte}
@@ -45,7 +45,7 @@ four_posts =
 abbrev last_posts : Flat
 last_posts = subscription []
     (node (codes "user") (order_by (codes "name") (codes "desc") ∷ [])
-        (leaf (codes "id") ∷ node (codes "posts") (pair (codes "limit") (v.Int (codes "1")) ∷ order_by (codes "id") (codes "desc") ∷ []) (leaf (codes "id") ∷ []) ∷ []))
+    (leaf (codes "id") ∷ node (codes "posts") (pair (codes "limit") (v.Int (codes "1")) ∷ order_by (codes "id") (codes "desc") ∷ []) (leaf (codes "id") ∷ []) ∷ []))
 
 nulls_and_limits : (result posts (live last_posts) val.Null four_posts).text ≡ codes "{\"data\":{\"user\":[{\"id\":2,\"posts\":[{\"id\":3}]},{\"id\":1,\"posts\":[{\"id\":2}]}]}}"
 unfolding digits escape_byte
@@ -55,7 +55,7 @@ nulls_and_limits = simp (queries, truths, canonical_texts)
 abbrev others_posts : Flat
 others_posts = subscription []
     (node (codes "post") (pair (codes "where") (one (codes "_not") (one (codes "author_id") (one (codes "_eq") (v.Int (codes "1"))))) ∷ [])
-        (leaf (codes "id") ∷ node (codes "author") [] (leaf (codes "id") ∷ []) ∷ []))
+    (leaf (codes "id") ∷ node (codes "author") [] (leaf (codes "id") ∷ []) ∷ []))
 
 abbrev where_first : Filter
 where_first = filter.And (filter.And (filter.Cmp 1 compare.Eq (operand.Const (int 1)) ∷ []) ∷ [])
@@ -107,9 +107,9 @@ titles = [] ∷ (post 1 val.Null (codes "t") ∷ post 2 val.Null (codes "t") ∷
 abbrev by_title : Flat
 by_title = subscription []
     (node (codes "post_stream")
-        (pair (codes "batch_size") (v.Int (codes "1"))
-        ∷ pair (codes "cursor") (v.Many (v.Object (pair (codes "initial_value") (one (codes "title") (v.Text [])) ∷ pair (codes "ordering") (v.Enum (codes "ASC")) ∷ []) ∷ [])) ∷ [])
-        (leaf (codes "id") ∷ leaf (codes "title") ∷ []))
+    (pair (codes "batch_size") (v.Int (codes "1"))
+    ∷ pair (codes "cursor") (v.Many (v.Object (pair (codes "initial_value") (one (codes "title") (v.Text [])) ∷ pair (codes "ordering") (v.Enum (codes "ASC")) ∷ []) ∷ [])) ∷ [])
+    (leaf (codes "id") ∷ leaf (codes "title") ∷ []))
 
 abbrev answer : Text → ℕ → Val → Result
 answer t rows last = record { text = t; rows = rows; last = last }
@@ -136,8 +136,13 @@ user_stream = subscription (record { name = codes "f"; kind = type.Named (codes 
     (node (codes "user_stream") (pair (codes "batch_size") (v.Int (codes "5")) ∷ pair (codes "cursor") (one (codes "initial_value") (one (codes "id") (v.Var (codes "f")))) ∷ []) (leaf (codes "id") ∷ []))
 
 abbrev stream_from : ℕ → Query
-stream_from n = record { kind = sub.Stream; role = codes "admin"; selection = user_stream; session = [];
-    variables = record { name = codes "f"; type = record { kind = kind.Int; listed = false; strict = true; strict_item = false }; value = One (int n) } ∷ [] }
+stream_from n = record {
+  kind = sub.Stream;
+  role = codes "admin";
+  selection = user_stream;
+  session = [];
+  variables = record { name = codes "f"; type = record { kind = kind.Int; listed = false; strict = true; strict_item = false }; value = One (int n) } ∷ [];
+}
 
 admitted_streams : map (λ n. admitted users admin (member (codes "f") (number (unsigned n)) no_members) user_stream) (0 ∷ 5 ∷ []) ≡
     map (λ n. Ok (record { query = stream_from n; cursor = int n })) (0 ∷ 5 ∷ [])
@@ -165,8 +170,13 @@ abbrev all_posts : Flat
 all_posts = subscription [] (node (codes "post") [] (leaf (codes "id") ∷ leaf (codes "title") ∷ []))
 
 abbrev read_by : ℕ → Query
-read_by n = record { kind = sub.Live; role = codes "reader"; selection = all_posts; variables = [];
-    session = record { slot = record { name = codes "x-hasura-user-id"; kind = kind.Int }; value = int n } ∷ [] }
+read_by n = record {
+  kind = sub.Live;
+  role = codes "reader";
+  selection = all_posts;
+  variables = [];
+  session = record { slot = record { name = codes "x-hasura-user-id"; kind = kind.Int }; value = int n } ∷ [];
+}
 
 admitted_readers : map (λ id. admitted posts (reader_with id) no_members all_posts) (codes "1" ∷ codes "2" ∷ []) ≡ map (λ n. Ok (record { query = read_by n; cursor = val.Null })) (1 ∷ 2 ∷ [])
 admitted_readers = simp (queries, truths, canonical_texts)

@@ -1,5 +1,5 @@
 -- Metadata and selections of the worked rows.
-use Rattle.std.proofs.Common.{ℕ, Bool, List, [], ◌∷◌, Option, Some, None, true, false, pos}
+use Rattle.std.proofs.Common.{ℕ, Bool, List, [], ◌∷◌, None, true, false, pos}
 use Rattle.std.specs.Prelude.{codes}
 use Rattle.scalar_val.specs.declared.val.Kind.{Kind}
 use Rattle.scalar_val.specs.declared.val.Kind.TheVariants as kind
@@ -11,7 +11,6 @@ use Rattle.data_model.specs.Rows.{Row}
 use Rattle.role_model.specs.declared.filter.Filter.TheVariants as filter
 use Rattle.role_model.specs.declared.filter.Op.TheVariants as compare
 use Rattle.role_model.specs.declared.filter.Operand.TheVariants as operand
-use Rattle.role_model.specs.declared.metadata.Grant.{Grant}
 use Rattle.role_model.specs.declared.metadata.LinkDef.{LinkDef}
 use Rattle.role_model.specs.declared.metadata.Metadata.{Metadata}
 use Rattle.role_model.specs.declared.metadata.RoleDef.{RoleDef}
@@ -58,11 +57,13 @@ author_link = record { name = codes "author"; many = false; table = 0; from = 1 
 -- the reader sees all users, and the posts of its own id without their notes
 abbrev pub reader : RoleDef
 reader = record {
-  name = codes "reader"; session_names = codes "x-hasura-user-id" ∷ [];
+  name = codes "reader";
+  session_names = codes "x-hasura-user-id" ∷ [];
   grants =
-    record { table = 0; columns = 0 ∷ 1 ∷ []; filter = filter.And []; limit = None }
-    ∷ record { table = 1; columns = 0 ∷ 1 ∷ 2 ∷ []; filter = filter.And (filter.And (filter.Cmp 1 compare.Eq (operand.Sess 0) ∷ []) ∷ []); limit = None }
-    ∷ [] }
+      record { table = 0; columns = 0 ∷ 1 ∷ []; filter = filter.And []; limit = None }
+      ∷ record { table = 1; columns = 0 ∷ 1 ∷ 2 ∷ []; filter = filter.And (filter.And (filter.Cmp 1 compare.Eq (operand.Sess 0) ∷ []) ∷ []); limit = None }
+      ∷ [];
+}
 
 -- users and their posts
 abbrev pub posts : Metadata

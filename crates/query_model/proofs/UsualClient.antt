@@ -1,5 +1,5 @@
 -- A usual client, from its document on: fragments, a default, a directive by a variable, relationships both ways.
-use Rattle.std.proofs.Common.{◌≡◌, ℕ, List, [], ◌∷◌, map, Option, Some, None, Ok, true, false, pos, refl}
+use Rattle.std.proofs.Common.{◌≡◌, List, [], ◌∷◌, Some, None, Ok, true, false}
 use Rattle.std.specs.Prelude.{codes}
 use Rattle.std.specs.Fmt.{digits}
 use Rattle.json.specs.Print.{escape_byte}
@@ -14,13 +14,11 @@ use Rattle.role_model.proofs.Truths.{truths}
 use Rattle.request_model.specs.declared.document.GValue.TheVariants as v
 use Rattle.request_model.specs.declared.document.VarDef.{VarDef}
 use Rattle.request_model.specs.declared.document.TypeRef.TheVariants as type
-use Rattle.request_model.specs.declared.document.Directive.{Directive}
 use Rattle.request_model.specs.declared.document.Selection.{Selection}
 use Rattle.request_model.specs.declared.document.Selection.TheVariants as s
 use Rattle.request_model.specs.declared.document.OpWord.TheVariants as op
 use Rattle.request_model.specs.declared.document.Definition.TheVariants as d
 use Rattle.request_model.specs.declared.document.Document.{Document}
-use Rattle.request_model.specs.declared.flat.FlatField.{FlatField}
 use Rattle.request_model.specs.declared.flat.FlatField.TheViews.{roll-FlatField}
 use Rattle.request_model.specs.declared.flat.Flat.{Flat}
 use Rattle.request_model.specs.declared.flat.Word.TheVariants as word
@@ -50,32 +48,49 @@ declared =
 
 -- subscription Feed(..) { user(order_by: [{id: asc}], limit: $n) { ...U __typename } }
 abbrev feed : Operation
-feed = record { word = op.Subscription; name = Some (codes "Feed"); vars = declared; directives = [];
-    select = s.Field None (codes "user") (pair (codes "order_by") (v.Many (one (codes "id") (v.Enum (codes "asc")) ∷ [])) ∷ pair (codes "limit") (v.Var (codes "n")) ∷ []) []
-        (s.Spread (codes "U") [] ∷ plain (codes "__typename") ∷ []) ∷ [] }
+feed = record {
+  word = op.Subscription;
+  name = Some (codes "Feed");
+  vars = declared;
+  directives = [];
+  select = s.Field None (codes "user") (pair (codes "order_by") (v.Many (one (codes "id") (v.Enum (codes "asc")) ∷ [])) ∷ pair (codes "limit") (v.Var (codes "n")) ∷ []) []
+      (s.Spread (codes "U") [] ∷ plain (codes "__typename") ∷ []) ∷ [];
+}
 
 -- fragment U on user { id name posts(order_by: {id: desc}) @include(if: $withPosts) { title author { name __typename } } }
 abbrev document : Document
-document = record { definitions =
-    d.Operation feed.word feed.name feed.vars feed.directives feed.select
-    ∷ d.Fragment (codes "U") (codes "user") []
-        (plain (codes "id") ∷ plain (codes "name")
-        ∷ s.Field None (codes "posts") (order_by (codes "id") (codes "desc") ∷ []) (record { name = codes "include"; args = pair (codes "if") (v.Var (codes "withPosts")) ∷ [] } ∷ [])
-            (plain (codes "title") ∷ s.Field None (codes "author") [] [] (plain (codes "name") ∷ plain (codes "__typename") ∷ []) ∷ [])
-        ∷ [])
-    ∷ [] }
+document = record {
+  definitions =
+      d.Operation feed.word feed.name feed.vars feed.directives feed.select
+      ∷ d.Fragment (codes "U") (codes "user") []
+      (plain (codes "id") ∷ plain (codes "name")
+      ∷ s.Field None (codes "posts") (order_by (codes "id") (codes "desc") ∷ []) (record { name = codes "include"; args = pair (codes "if") (v.Var (codes "withPosts")) ∷ [] } ∷ [])
+      (plain (codes "title") ∷ s.Field None (codes "author") [] [] (plain (codes "name") ∷ plain (codes "__typename") ∷ []) ∷ [])
+      ∷ [])
+      ∷ [];
+}
 
 abbrev given : Members
 given = member (codes "withPosts") (boolean true) no_members
 
 abbrev feed_flat : Flat
-feed_flat = record { kind = word.Subscription; vars = declared; conditions = []; fields =
-    roll-FlatField (record { key = codes "user"; name = codes "user"; nested = true; conditions = codes "user" ∷ [];
+feed_flat = record {
+  kind = word.Subscription;
+  vars = declared;
+  conditions = [];
+  fields =
+      roll-FlatField (record {
+        key = codes "user";
+        name = codes "user";
+        nested = true;
+        conditions = codes "user" ∷ [];
         args = pair (codes "order_by") (v.Many (one (codes "id") (v.Enum (codes "asc")) ∷ [])) ∷ pair (codes "limit") (v.Var (codes "n")) ∷ [];
         fields = leaf (codes "id") ∷ leaf (codes "name")
             ∷ node (codes "posts") (order_by (codes "id") (codes "desc") ∷ []) (leaf (codes "title") ∷ node (codes "author") [] (leaf (codes "name") ∷ leaf (codes "__typename") ∷ []) ∷ [])
-            ∷ leaf (codes "__typename") ∷ [] })
-    ∷ [] }
+            ∷ leaf (codes "__typename") ∷ [];
+      })
+      ∷ [];
+}
 
 flattened : flat_of document given feed word.Subscription ≡ feed_flat
 flattened = simp (selections, canonical_texts)
@@ -85,9 +100,13 @@ feed_text : canonical feed_flat ≡
 feed_text = simp canonical_texts
 
 abbrev feed_query : Query
-feed_query = record { kind = sub.Live; role = codes "reader"; selection = feed_flat;
-    variables = variable (codes "n") kind.Int (One (int 2)) ∷ record { name = codes "withPosts"; type = record { kind = kind.Bool; listed = false; strict = true; strict_item = false }; value = One (val.Bool true) } ∷ [];
-    session = record { slot = record { name = codes "x-hasura-user-id"; kind = kind.Int }; value = int 1 } ∷ [] }
+feed_query = record {
+  kind = sub.Live;
+  role = codes "reader";
+  selection = feed_flat;
+  variables = variable (codes "n") kind.Int (One (int 2)) ∷ record { name = codes "withPosts"; type = record { kind = kind.Bool; listed = false; strict = true; strict_item = false }; value = One (val.Bool true) } ∷ [];
+  session = record { slot = record { name = codes "x-hasura-user-id"; kind = kind.Int }; value = int 1 } ∷ [];
+}
 
 feed_admitted : admitted posts (reader_with (codes "1")) given feed_flat ≡ Ok (record { query = feed_query; cursor = val.Null })
 feed_admitted = simp (queries, canonical_texts)

@@ -1,5 +1,5 @@
 -- Worked rows of variables.
-use Rattle.std.proofs.Common.{◌≡◌, List, [], ◌∷◌, map, Option, Some, None, Result, Ok, Err, Bool, true, false, pos, neg_ℤ, refl}
+use Rattle.std.proofs.Common.{◌≡◌, [], ◌∷◌, Option, Some, None, Result, Ok, Err, Bool, true, false, pos, neg_ℤ}
 use Rattle.std.specs.Prelude.{codes}
 use Rattle.serde_json.specs.Data.{Data, Num, unsigned, Items, no_items, item, Members, no_members, member}
 use Rattle.serde_json.specs.Data as json
@@ -12,7 +12,6 @@ use Rattle.request_model.specs.declared.document.GValue.TheVariants as v
 use Rattle.request_model.specs.declared.document.TypeRef.{TypeRef}
 use Rattle.request_model.specs.declared.document.TypeRef.TheVariants as type
 use Rattle.request_model.specs.declared.document.VarDef.{VarDef}
-use Rattle.request_model.specs.Strings.{Text}
 use Rattle.request_model.proofs.SelectionRules.{canonical_texts}
 use Rattle.query_model.specs.declared.fault.FaultKind.{FaultKind}
 use Rattle.query_model.specs.declared.fault.FaultKind.TheVariants as fault

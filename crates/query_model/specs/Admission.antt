@@ -1,6 +1,6 @@
 -- What is admitted, and the first refusal of what isn't: GraphQL October 2021, section 5 ("Validation"), and Hasura's
 -- schema of roles. The codes, their order and the names that they give are this project's own.
-use Rattle.std.specs.Prelude.{◌≡◌, ℕ, ℤ, pos, Bool, true, false, not, ◌&&◌, ◌||◌, if◌then◌else◌, int_lt, List, [], ◌∷◌, ◌++◌, map, is_some, is_none, unwrap_or, Option, Some, None, option_map, option_and_then, Result, Ok, Err, codes, slice_get}
+use Rattle.std.specs.Prelude.{ℕ, ℤ, pos, Bool, true, false, not, ◌&&◌, ◌||◌, if◌then◌else◌, int_lt, List, [], ◌∷◌, ◌++◌, map, is_some, is_none, unwrap_or, Option, Some, None, option_map, option_and_then, Result, Ok, Err, codes}
 use Rattle.std.specs.List.{list_any}
 use Rattle.std.specs.Str.{bytes_eq}
 use Rattle.std.specs.Fmt.{signed_decimal}
@@ -19,7 +19,7 @@ use Rattle.role_model.specs.declared.session.Session.{Session}
 use Rattle.role_model.specs.JsonFilters.{op_named}
 use Rattle.role_model.specs.Roles.{View, column_seen}
 use Rattle.role_model.specs.Texts.{value_of}
-use Rattle.role_model.specs.Truth.{is_null, one_value, many_values}
+use Rattle.role_model.specs.Truth.{is_null, one_value}
 use Rattle.request_model.specs.declared.document.GValue.{GValue}
 use Rattle.request_model.specs.declared.document.GValue.TheOpen.{GValue-F, GPair-F}
 use Rattle.request_model.specs.declared.document.GValue.TheViews.{out-GValue}
@@ -40,7 +40,7 @@ use Rattle.request_model.specs.Selection.{Flattens}
 use Rattle.query_model.specs.declared.fault.FaultKind.{FaultKind}
 use Rattle.query_model.specs.declared.fault.FaultKind.TheVariants as fault
 use Rattle.query_model.specs.declared.fault.QueryFault.{QueryFault}
-use Rattle.query_model.specs.Names.{Root, RowsOf, RowOf, StreamOf, NoRoot, Meant, Typename, AColumn, ALink, Unseen, meant, root_type, type_name, columns_of, key_columns, column_at, kind_of, pair_name, pair_value, argument, literal, literal_value, variable_in, pairs_in, items_in, enum_in, column_name, initial_pair, initial_column}
+use Rattle.query_model.specs.Names.{Root, RowsOf, RowOf, StreamOf, NoRoot, Meant, Typename, AColumn, ALink, Unseen, meant, root_type, type_name, key_columns, column_at, kind_of, pair_name, pair_value, argument, literal, literal_value, variable_in, pairs_in, items_in, enum_in, column_name, initial_pair, initial_column}
 use Rattle.query_model.specs.Variables.{Variable, variable_of, variable_named, value_read}
 use Rattle.query_model.specs.Conditions.{order_named}
 use Rattle.query_model.specs.Queries.{Query, SessionSlot, SessionValue, root_of, kind_by, selection_slots}
@@ -422,7 +422,8 @@ module _ (m : Metadata) (session : Session) (values : Members) (s : Flat) where
   abbrev pub query_with : FlatField → List Variable → List SessionValue → Admitted
   query_with f vars slots = record {
     query = record { kind = kind_by s.kind (root_of role_view s.kind f); role = session.role; selection = s; variables = vars; session = slots };
-    cursor = initial_cursor vars role_view (root_of role_view s.kind f) (out-FlatField f).args }
+    cursor = initial_cursor vars role_view (root_of role_view s.kind f) (out-FlatField f).args;
+  }
 
   -- one root field, variables, the walk and session slots, in this order
   abbrev pub admitted : Result Admitted QueryFault

@@ -1,6 +1,6 @@
 -- The conditions and orders that arguments write: Hasura's boolean expressions and `order_by`. A condition is read with
 -- a reader for its values, which may put the values themselves in their places, or slots of a plan.
-use Rattle.std.specs.Prelude.{ℕ, Bool, true, false, List, [], ◌∷◌, map, flat_map, if◌then◌else◌, unwrap_or, Option, Some, None, option_map, option_and_then, codes}
+use Rattle.std.specs.Prelude.{ℕ, Bool, true, false, List, [], ◌∷◌, map, flat_map, if◌then◌else◌, Option, Some, None, option_map, option_and_then, codes}
 use Rattle.std.specs.List.{filter_map}
 use Rattle.std.specs.Str.{bytes_eq}
 use Rattle.scalar_val.specs.declared.val.Kind.{Kind}

@@ -1,19 +1,18 @@
 -- What holds of admission, plans, results and streams. This project's own.
-use Rattle.std.specs.Prelude.{◌≡◌, ℕ, ◌≤◌, Bool, true, false, not, ◌&&◌, ◌||◌, ◌==◌, List, [], ◌∷◌, ◌++◌, map, filter, length, take, drop, Option, Some, None, Result, Ok, Err, IsTrue}
+use Rattle.std.specs.Prelude.{◌≡◌, ℕ, ◌≤◌, Bool, true, false, not, ◌&&◌, ◌||◌, ◌==◌, List, [], ◌∷◌, ◌++◌, filter, length, drop, Option, Some, None, Result, Ok, Err, IsTrue}
 use Rattle.std.specs.List.{list_all, list_any}
 use Rattle.std.specs.Str.{bytes_eq}
 use Rattle.serde_json.specs.Data.{Members}
 use Rattle.scalar_val.specs.declared.val.Val.{Val}
 use Rattle.scalar_val.specs.declared.val.Val.TheVariants as val
 use Rattle.data_model.specs.declared.catalog.TableDef.{TableDef}
-use Rattle.data_model.specs.declared.catalog.Catalog.{Catalog}
 use Rattle.data_model.specs.declared.transaction.Reason.{Reason}
 use Rattle.data_model.specs.declared.transaction.TxFault.{TxFault}
 use Rattle.data_model.specs.declared.transaction.TxCell.{TxCell}
 use Rattle.data_model.specs.declared.transaction.TxChange.{TxChange}
 use Rattle.data_model.specs.declared.transaction.TxChange.TheVariants.{Insert, Update, Delete}
-use Rattle.data_model.specs.Rows.{Row, Rows, Database, Fits, cell, key_of}
-use Rattle.data_model.specs.Transactions.{row_given, rows_at, apply, after_or_same, change, snapshot, database_after}
+use Rattle.data_model.specs.Rows.{Row, Rows, Database, Fits, cell}
+use Rattle.data_model.specs.Transactions.{row_given, rows_at, apply, after_or_same, change, snapshot}
 use Rattle.role_model.specs.declared.metadata.Metadata.{Metadata}
 use Rattle.role_model.specs.declared.plan.Plan.{Plan}
 use Rattle.role_model.specs.declared.session.Session.{Session}
@@ -25,14 +24,13 @@ use Rattle.request_model.specs.declared.flat.FlatField.TheViews.{out-FlatField}
 use Rattle.request_model.specs.declared.flat.Flat.{Flat}
 use Rattle.request_model.specs.Strings.{Text}
 use Rattle.request_model.specs.Ordered.{ordered}
-use Rattle.request_model.specs.Canonical.{canonical}
 use Rattle.request_model.specs.SelectionLaws.{is_written}
 use Rattle.query_model.specs.declared.fault.QueryFault.{QueryFault}
 use Rattle.query_model.specs.declared.kind.SubKind.TheVariants as sub
 use Rattle.query_model.specs.Names.{Root, RowsOf, RowOf, StreamOf, NoRoot, initial_column, descends, type_name}
 use Rattle.query_model.specs.Queries.{Query, SamePoller, SameCohort, binding_of, root_of, view_of}
 use Rattle.query_model.specs.Admission.{Admitted, admitted, Admits}
-use Rattle.query_model.specs.Taken.{Wanted, Result as Answer, matches, taken, rows_cmp, along, is_beyond}
+use Rattle.query_model.specs.Taken.{taken, rows_cmp, along, is_beyond}
 use Rattle.query_model.specs.Results.{result, is_asked, is_permitted, stream_wanted}
 use Rattle.query_model.specs.Plans.{planned, plan_of, PlanFits, BindingFits}
 

@@ -1,6 +1,6 @@
 -- What names mean to a role: the fields of the root and of a table's objects, as Hasura's schemas have them, and the
 -- arguments and literals of a field.
-use Rattle.std.specs.Prelude.{ℕ, Bool, true, false, ◌++◌, List, [], ◌∷◌, if◌then◌else◌, unwrap_or, Option, Some, None, option_map, option_and_then, codes, slice_get, position, find}
+use Rattle.std.specs.Prelude.{ℕ, Bool, false, ◌++◌, List, [], ◌∷◌, if◌then◌else◌, unwrap_or, Option, Some, None, option_map, option_and_then, codes, slice_get, position, find}
 use Rattle.std.specs.Str.{bytes_eq}
 use Rattle.scalar_val.specs.declared.val.Kind.{Kind}
 use Rattle.scalar_val.specs.declared.val.Kind.TheVariants as kind

@@ -1,6 +1,6 @@
 -- Plans: what one gives with a binding on a database, when it fits, how many rows it reads, and the plan of a selection.
 -- This project's own.
-use Rattle.std.specs.Prelude.{ℕ, ◌≡◌, ◌+◌, pos, IsTrue, Bool, true, false, not, ◌&&◌, ◌||◌, if◌then◌else◌, nat_lt, nat_le, ◌==◌, List, [], ◌∷◌, ◌++◌, map, length, unwrap_or, option_map, option_and_then, Option, Some, None, slice_get, codes, position}
+use Rattle.std.specs.Prelude.{ℕ, ◌≡◌, ◌+◌, IsTrue, Bool, true, false, ◌&&◌, ◌||◌, if◌then◌else◌, nat_lt, nat_le, ◌==◌, List, [], ◌∷◌, ◌++◌, map, length, unwrap_or, option_map, Option, Some, None, slice_get, codes, position}
 use Rattle.std.specs.List.{list_all, sum}
 use Rattle.std.specs.Ordering.{is_eq}
 use Rattle.scalar_val.specs.declared.val.Kind.{Kind}
@@ -23,7 +23,6 @@ use Rattle.role_model.specs.declared.filter.Op.TheVariants.{Eq}
 use Rattle.role_model.specs.declared.filter.Operand.{Operand}
 use Rattle.role_model.specs.declared.filter.Operand.TheVariants.{Const, Var, Sess}
 use Rattle.role_model.specs.declared.metadata.LinkDef.{LinkDef}
-use Rattle.role_model.specs.declared.metadata.Metadata.{Metadata}
 use Rattle.role_model.specs.declared.plan.Order.{Order}
 use Rattle.role_model.specs.declared.plan.Shape.{Shape}
 use Rattle.role_model.specs.declared.plan.Shape.TheVariants as shape
@@ -244,9 +243,15 @@ module _ (v : View) (names : List Text) (slots : List SessionSlot) where
 
   abbrev pub list_select : ℕ → List GPair → List Field → Select
   list_select table args fields = roll-Select (record {
-    table = table; shape = shape.List; filter = filter.And (where_filter v operands table (argument (codes "where") args) ∷ permission table);
-    order = orders_in v table (argument (codes "order_by") args); limit = count_operand (argument (codes "limit") args); offset = count_operand (argument (codes "offset") args);
-    cap = cap_seen v table; fields = fields })
+    table = table;
+    shape = shape.List;
+    filter = filter.And (where_filter v operands table (argument (codes "where") args) ∷ permission table);
+    order = orders_in v table (argument (codes "order_by") args);
+    limit = count_operand (argument (codes "limit") args);
+    offset = count_operand (argument (codes "offset") args);
+    cap = cap_seen v table;
+    fields = fields;
+  })
 
   abbrev pub one_select : ℕ → List Filter → List Field → Select
   one_select table conditions fields = roll-Select (record { table = table; shape = shape.One; filter = filter.And (conditions ++ permission table); order = []; limit = None; offset = None; cap = None; fields = fields })
@@ -265,9 +270,15 @@ module _ (v : View) (names : List Text) (slots : List SessionSlot) where
 
   abbrev pub stream_select : ℕ → List GPair → List Field → Select
   stream_select table args fields = roll-Select (record {
-    table = table; shape = shape.Stream (initial_column v table args) (descends args) (batch_operand (argument (codes "batch_size") args));
+    table = table;
+    shape = shape.Stream (initial_column v table args) (descends args) (batch_operand (argument (codes "batch_size") args));
     filter = filter.And (where_filter v operands table (argument (codes "where") args) ∷ permission table);
-    order = []; limit = None; offset = None; cap = cap_seen v table; fields = fields })
+    order = [];
+    limit = None;
+    offset = None;
+    cap = cap_seen v table;
+    fields = fields;
+  })
 
   abbrev pub link_select : LinkDef → List GPair → List Field → Select
   link_select l args fields = if l.many then list_select l.table args fields else one_select l.table [] fields

@@ -1,14 +1,12 @@
 -- Queries, the slots of their session variables, their bindings, pollers and cohorts. Cohorts are Hasura's ("Live
 -- queries"); what makes two queries of one poller or cohort is this project's own.
-use Rattle.std.specs.Prelude.{◌≡◌, ℕ, Bool, true, false, List, [], ◌∷◌, ◌++◌, map, find, flat_map, if◌then◌else◌, unwrap_or, Option, Some, None, option_map, codes}
-use Rattle.std.specs.Str.{bytes_eq}
+use Rattle.std.specs.Prelude.{◌≡◌, ℕ, List, [], ◌∷◌, ◌++◌, map, flat_map, unwrap_or, Option, Some, None}
 use Rattle.std.specs.Ordering.{nat_cmp, on, then_cmp}
 use Rattle.std.specs.Cmp.Lexicographic.{slice_cmp}
 use Rattle.std.specs.declared.cmp.Ordering.{Ordering}
 use Rattle.scalar_val.specs.declared.val.Kind.{Kind}
 use Rattle.scalar_val.specs.declared.val.Kind.TheVariants as kind
 use Rattle.scalar_val.specs.declared.val.Val.{Val}
-use Rattle.scalar_val.specs.declared.val.Val.TheVariants as val
 use Rattle.role_model.specs.declared.filter.Binding.{Binding}
 use Rattle.role_model.specs.declared.filter.Filter.{Filter}
 use Rattle.role_model.specs.declared.filter.Filter.TheOpen.{Filter-F}
@@ -17,14 +15,11 @@ use Rattle.role_model.specs.declared.filter.Items.{Items}
 use Rattle.role_model.specs.declared.filter.Items.TheVariants as items
 use Rattle.role_model.specs.declared.filter.Operand.{Operand}
 use Rattle.role_model.specs.declared.filter.Operand.TheVariants.{Const, Var, Sess}
-use Rattle.role_model.specs.declared.filter.Slot.{Slot}
-use Rattle.role_model.specs.declared.filter.Slot.TheVariants.{One, Many}
 use Rattle.role_model.specs.declared.metadata.Metadata.{Metadata}
 use Rattle.role_model.specs.Roles.{View, filter_seen, session_name_seen}
 use Rattle.request_model.specs.declared.document.GValue.{GValue}
 use Rattle.request_model.specs.declared.document.GValue.TheOpen.{GValue-F, GPair-F}
 use Rattle.request_model.specs.declared.document.GValue.TheFolds.{fold-GValue}
-use Rattle.request_model.specs.declared.document.GPair.{GPair}
 use Rattle.request_model.specs.declared.flat.Word.{Word}
 use Rattle.request_model.specs.declared.flat.Word.TheVariants as word
 use Rattle.request_model.specs.declared.flat.FlatField.{FlatField}

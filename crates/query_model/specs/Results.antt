@@ -3,12 +3,10 @@
 use Rattle.std.specs.Prelude.{ℕ, Bool, true, false, ◌&&◌, if◌then◌else◌, List, [], ◌∷◌, map, find, unwrap_or, Option, Some, None, option_map, codes}
 use Rattle.std.specs.List.{list_all}
 use Rattle.std.specs.Ordering.{is_eq}
-use Rattle.scalar_val.specs.declared.val.Kind.{Kind}
-use Rattle.scalar_val.specs.declared.val.Kind.TheVariants as kind
 use Rattle.scalar_val.specs.declared.val.Val.{Val}
 use Rattle.scalar_val.specs.declared.val.Val.TheVariants as val
 use Rattle.scalar_val.specs.ValText.{val_text}
-use Rattle.data_model.specs.Rows.{Row, Rows, Database, cell}
+use Rattle.data_model.specs.Rows.{Row, Database, cell}
 use Rattle.role_model.specs.declared.filter.Binding.{Binding}
 use Rattle.role_model.specs.declared.filter.Filter.{Filter}
 use Rattle.role_model.specs.declared.filter.Filter.TheVariants as filter
@@ -21,8 +19,7 @@ use Rattle.role_model.specs.declared.filter.Operand.{Operand}
 use Rattle.role_model.specs.declared.filter.Operand.TheVariants.{Const, Var, Sess}
 use Rattle.role_model.specs.declared.metadata.LinkDef.{LinkDef}
 use Rattle.role_model.specs.declared.metadata.Metadata.{Metadata}
-use Rattle.role_model.specs.declared.plan.Order.{Order}
-use Rattle.role_model.specs.Roles.{View, filter_seen, cap_seen, column_seen}
+use Rattle.role_model.specs.Roles.{View, filter_seen, cap_seen}
 use Rattle.role_model.specs.Truth.{is_yes, truth_of, compared}
 use Rattle.request_model.specs.declared.document.GValue.{GValue}
 use Rattle.request_model.specs.declared.document.GPair.{GPair}
@@ -30,10 +27,9 @@ use Rattle.request_model.specs.declared.flat.FlatField.{FlatField}
 use Rattle.request_model.specs.declared.flat.FlatField.TheOpen.{FlatField-F}
 use Rattle.request_model.specs.declared.flat.FlatField.TheViews.{out-FlatField}
 use Rattle.request_model.specs.declared.flat.FlatField.TheFolds.{fold-FlatField}
-use Rattle.request_model.specs.declared.flat.Flat.{Flat}
 use Rattle.request_model.specs.Strings.{Text}
 use Rattle.request_model.specs.Canonical.{named_text}
-use Rattle.query_model.specs.Names.{Root, RowsOf, RowOf, StreamOf, NoRoot, Meant, Typename, AColumn, ALink, Unseen, meant, type_name, key_columns, column_at, column_name, kind_of, argument, pair_name, pairs_in, items_in, enum_in, initial_column, descends}
+use Rattle.query_model.specs.Names.{Root, RowsOf, RowOf, StreamOf, NoRoot, Meant, Typename, AColumn, ALink, Unseen, meant, type_name, key_columns, column_name, kind_of, argument, initial_column, descends}
 use Rattle.query_model.specs.Variables.{value_read, values_read, number_read}
 use Rattle.query_model.specs.Conditions.{Reader, where_filter, orders_in}
 use Rattle.query_model.specs.Queries.{Query, SessionSlot, SessionValue, slot_cmp, session_name, root_of, view_of}
@@ -120,14 +116,18 @@ module _ (m : Metadata) (q : Query) where
   abbrev pub stream_wanted : Val → ℕ → List GPair → Wanted
   stream_wanted cursor table args =
       let column = initial_column view table args in
-      record { table = table; shown = λ row. is_asked table args row && is_permitted table row && is_beyond (descends args) cursor (cell row column);
-               extent = Next column (descends args) (unwrap_or (number_read q.variables (argument (codes "batch_size") args)) 0); cap = cap_seen view table }
+      record {
+        table = table;
+        shown = λ row. is_asked table args row && is_permitted table row && is_beyond (descends args) cursor (cell row column);
+        extent = Next column (descends args) (unwrap_or (number_read q.variables (argument (codes "batch_size") args)) 0);
+        cap = cap_seen view table;
+      }
 
   -- those that a relationship wants, for a parent row
   abbrev pub link_wanted : LinkDef → List GPair → Row → Wanted
   link_wanted l args parent =
       if l.many then
-        record { table = l.table; shown = λ row. joins l.from l.to parent row && is_asked l.table args row && is_permitted l.table row; extent = list_extent l.table args; cap = cap_seen view l.table }
+      record { table = l.table; shown = λ row. joins l.from l.to parent row && is_asked l.table args row && is_permitted l.table row; extent = list_extent l.table args; cap = cap_seen view l.table }
       else record { table = l.table; shown = λ row. joins l.from l.to parent row && is_permitted l.table row; extent = First; cap = None }
 
   module _ (db : Database) where
