@@ -4,7 +4,7 @@ use Rattle.std.specs.Prelude.{ℕ, ◌+◌, Bool, ◌&&◌, ◌||◌, not, ◌==
 use Rattle.std.specs.List.{list_any, filter_map, position_from}
 use Rattle.model.specs.Values.{same_value}
 use Rattle.model.specs.Queries.{same_poller, same_binding}
-use Rattle.model.specs.Admission.{Meta}
+use Rattle.role_model.specs.declared.metadata.Metadata.{Metadata}
 use Rattle.model.specs.State.{State, Subscription, Member, Job, Step, Ticked, Nobody, Taken, NotOpen, Abandoned, silent}
 
 -- subscriptions that only differ in variables have one poller
@@ -70,12 +70,12 @@ next_job s members = record { number = s.taken + 1; version = length s.transacti
 abbrev pub taken_with : State → Job → Step
 taken_with s job = silent (record s { due = filter (λ n. not (is_member n job)) s.due; jobs = s.jobs ++ job ∷ []; taken = s.taken + 1 }) (Taken job)
 
-abbrev pub take_from : Meta → State → Option Subscription → Step
+abbrev pub take_from : Metadata → State → Option Subscription → Step
 take_from meta s None = silent s Nobody
 take_from meta s (Some first) = taken_with s (next_job s (members_of (batch meta.batch_size s.due s.subscriptions first) s.subscriptions))
 
 -- the poller is that of the least due number
-abbrev pub take_job : Meta → State → Step
+abbrev pub take_job : Metadata → State → Step
 take_job meta s = take_from meta s (find (is_due s.due) s.subscriptions)
 
 abbrev pub is_job : ℕ → Job → Bool

@@ -4,7 +4,12 @@ use Rattle.std.specs.List.{list_any}
 use Rattle.scalar_val.specs.declared.val.Val.{Val}
 use Rattle.model.specs.Values.{same_text}
 use Rattle.model.specs.Messages.{Message, Init, Subscribe, Complete, Ping, Pong, Bad, Request, CloseReason, Invalid, Unauthorized, Forbidden, InitTimeout, TooManyInits, exists_reason, ack_text, pong_text, error_text}
-use Rattle.model.specs.Admission.{Meta, Session, Identity, Allowed, Denied, identity, Admission, Admits, Refuses, Unread, admits}
+use Rattle.role_model.specs.declared.metadata.Metadata.{Metadata}
+use Rattle.role_model.specs.declared.session.Session.{Session}
+use Rattle.role_model.specs.declared.session.Identity.{Identity}
+use Rattle.role_model.specs.declared.session.Identity.TheVariants as identity
+use Rattle.role_model.specs.Sessions.{identity_of}
+use Rattle.model.specs.Admission.{Admission, Admits, Refuses, Unread, admits}
 use Rattle.model.specs.Queries.{Query}
 use Rattle.model.specs.State.{State, Connection, Phase, Fresh, Acknowledged, Closed, Subscription, Step, Effect, ConnectionUnknown, ConnectionKnown, Did, Sent, Empty, Done, silent, nothing}
 
@@ -63,8 +68,8 @@ acknowledges session c = record c { phase = Acknowledged session }
 
 -- a `connection_init` on a fresh connection
 abbrev pub initialised : ℕ → State → Identity → Effect
-initialised number s (Allowed session) = queue_text number ack_text (with_connection number (acknowledges session) s)
-initialised number s Denied = close_connection number Forbidden s
+initialised number s (identity.Allowed session) = queue_text number ack_text (with_connection number (acknowledges session) s)
+initialised number s identity.Forbidden = close_connection number Forbidden s
 
 abbrev pub subscription_of : ℕ → List ℕ → Query → Val → State → Subscription
 subscription_of number id query cursor s =
@@ -76,27 +81,27 @@ subscribed number id s (Admits query cursor) = nothing (record s { subscriptions
 subscribed number id s (Refuses fault) = queue_text number (error_text id fault.message fault.code) s
 subscribed number id s Unread = nothing s
 
-abbrev pub subscribe : Meta → Session → ℕ → List ℕ → Request → State → Effect
+abbrev pub subscribe : Metadata → Session → ℕ → List ℕ → Request → State → Effect
 subscribe meta session number id request s =
     if list_any (is_live_id number id) s.subscriptions then close_connection number (exists_reason id) s else subscribed number id s (admits meta session request)
 
-abbrev pub receive_fresh : Meta → ℕ → Message → State → Effect
-receive_fresh meta number (Init headers) s = initialised number s (identity meta headers)
+abbrev pub receive_fresh : Metadata → ℕ → Message → State → Effect
+receive_fresh meta number (Init payload) s = initialised number s (identity_of meta payload)
 receive_fresh meta number (Subscribe id request) s = close_connection number Unauthorized s
 receive_fresh meta number (Complete id) s = nothing s
 receive_fresh meta number Ping s = queue_text number pong_text s
 receive_fresh meta number Pong s = nothing s
 receive_fresh meta number Bad s = close_connection number Invalid s
 
-abbrev pub receive_acknowledged : Meta → Session → ℕ → Message → State → Effect
-receive_acknowledged meta session number (Init headers) s = close_connection number TooManyInits s
+abbrev pub receive_acknowledged : Metadata → Session → ℕ → Message → State → Effect
+receive_acknowledged meta session number (Init payload) s = close_connection number TooManyInits s
 receive_acknowledged meta session number (Subscribe id request) s = subscribe meta session number id request s
 receive_acknowledged meta session number (Complete id) s = nothing (end_where (is_live_id number id) s)
 receive_acknowledged meta session number Ping s = queue_text number pong_text s
 receive_acknowledged meta session number Pong s = nothing s
 receive_acknowledged meta session number Bad s = close_connection number Invalid s
 
-abbrev pub receive : Meta → ℕ → Message → State → Phase → Effect
+abbrev pub receive : Metadata → ℕ → Message → State → Phase → Effect
 receive meta number message s Fresh = receive_fresh meta number message s
 receive meta number message s (Acknowledged session) = receive_acknowledged meta session number message s
 receive meta number message s (Closed reason) = nothing s

@@ -1,5 +1,4 @@
 pub mod Values
-pub mod Rows
 pub mod Queries
 pub mod Messages
 pub mod Admission
@@ -13,6 +12,3 @@ pub mod Built
 pub mod Transcript
 pub mod Script
 pub mod Shown
-pub mod Worked
-pub mod WorkedEvents
-pub mod WorkedScript

@@ -2,19 +2,16 @@
 -- (RFC 6455, section 5.5: a reason has at most 123 bytes).
 use Rattle.std.specs.Prelude.{ℕ, zero, suc, Bool, ◌&&◌, nat_le, nat_lt, if◌then◌else◌, Option, List, ◌++◌, length, take, slice_index, codes}
 use Rattle.json.specs.Print.{quoted}
-
-pub record Header : Type 0 where
-  pub name : List ℕ
-  pub value : List ℕ
+use Rattle.serde_json.specs.Data.{Data}
 
 -- what a `subscribe` asks for
 pub record Request : Type 0 where
   pub query : List ℕ
   pub operation : Option (List ℕ)
 
--- A client's message. `Init` has the headers of the payload whose values are texts.
+-- A client's message. `Init` has the payload, if there is one.
 pub data Message : Type 0 where
-  Init : (headers : List Header) → Message
+  Init : (payload : Option Data) → Message
   Subscribe : (id : List ℕ) (request : Request) → Message
   Complete : (id : List ℕ) → Message
   Ping : Message

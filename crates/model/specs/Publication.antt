@@ -2,10 +2,11 @@
 use Rattle.std.specs.Prelude.{ℕ, Bool, true, not, nat_lt, ◌==◌, if◌then◌else◌, Option, Some, None, List, [], ◌∷◌, ◌++◌, map}
 use Rattle.scalar_val.specs.declared.val.Val.{Val}
 use Rattle.model.specs.Values.{same_text}
-use Rattle.model.specs.Rows.{Database, snapshot}
+use Rattle.data_model.specs.Rows.{Database}
+use Rattle.data_model.specs.Transactions.{snapshot}
 use Rattle.model.specs.Queries.{Live, Once, Stream, QueryKind, Result, result}
 use Rattle.model.specs.Messages.{next_text, complete_text}
-use Rattle.model.specs.Admission.{Meta}
+use Rattle.role_model.specs.declared.metadata.Metadata.{Metadata}
 use Rattle.model.specs.State.{State, Subscription, Member, Job, Step, Effect, NotOpen, Published, silent, with_reply, nothing}
 use Rattle.model.specs.Connections.{queue_text, end_where}
 use Rattle.model.specs.Batches.{is_subscription, subscription_at, without_job}
@@ -54,12 +55,12 @@ publish_kind Once sub r s = publish_once sub r s
 publish_kind Stream sub r s = publish_stream sub r s
 
 -- what one member is told: the result of its own query and cursor on the job's database
-abbrev pub publish_member : Meta → Database → State → Option Subscription → Effect
-publish_member meta db s (Some sub) = if sub.live then publish_kind sub.query.kind sub (result meta.tables sub.query sub.cursor db) s else nothing s
+abbrev pub publish_member : Metadata → Database → State → Option Subscription → Effect
+publish_member meta db s (Some sub) = if sub.live then publish_kind sub.query.kind sub (result meta sub.query sub.cursor db) s else nothing s
 publish_member meta db s None = nothing s
 
 -- the members in order; one that is no longer live at its turn is passed over
-abbrev pub publish_members : Meta → Database → List Member → State → Effect
+abbrev pub publish_members : Metadata → Database → List Member → State → Effect
 publish_members meta db [] s = nothing s
 publish_members meta db (m ∷ ms) s = and_then (publish_member meta db s (subscription_at m.subscription s.subscriptions)) (λ t. publish_members meta db ms t)
 
@@ -67,9 +68,9 @@ abbrev pub close_job : ℕ → Effect → Effect
 close_job number e = record e { state = record e.state { jobs = without_job number e.state.jobs } }
 
 -- the database of a job: that after as many transactions as its version says
-abbrev pub database_of : Meta → State → Job → Database
-database_of meta s job = snapshot meta.tables s.transactions job.version
+abbrev pub database_of : Metadata → State → Job → Database
+database_of meta s job = snapshot meta.catalog s.transactions job.version
 
-abbrev pub publish : Meta → ℕ → State → Option Job → Step
+abbrev pub publish : Metadata → ℕ → State → Option Job → Step
 publish meta number s (Some job) = with_reply (Published job.version) (close_job number (publish_members meta (database_of meta s job) job.members s))
 publish meta number s None = silent s NotOpen

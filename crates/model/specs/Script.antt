@@ -1,13 +1,16 @@
 -- Scripts: their lines, and the outcome of a whole script. This project's own.
-use Rattle.std.specs.Prelude.{ℕ, ◌+◌, ◌^◌, Bool, true, false, ◌&&◌, ◌==◌, nat_lt, if◌then◌else◌, Option, Some, None, List, [], ◌∷◌, ◌++◌, length, take, drop, codes, decimal}
+use Rattle.std.specs.Prelude.{ℕ, ◌+◌, ◌^◌, Bool, true, false, ◌&&◌, ◌==◌, nat_lt, if◌then◌else◌, Option, Some, None, List, [], ◌∷◌, ◌++◌, length, take, drop, codes, decimal, Result, Ok, Err}
 use Rattle.std.specs.List.{list_all, starts_with, before_first, after_first}
-use Rattle.model.specs.Values.{same_text}
-use Rattle.model.specs.Rows.{Table, Transaction}
+use Rattle.model.specs.Values.{same_text, number_of}
+use Rattle.data_model.specs.declared.transaction.TxChange.{TxChange}
+use Rattle.data_model.specs.Form.{transaction}
+use Rattle.role_model.specs.declared.metadata.MetaFault.{MetaFault}
+use Rattle.role_model.specs.MetadataFaults.{metadata_of}
+use Rattle.role_model.specs.declared.metadata.Metadata.{Metadata}
 use Rattle.model.specs.Messages.{Message}
-use Rattle.model.specs.Admission.{Meta, number_of}
 use Rattle.model.specs.State.{State, Event, Connect, Receive, Commit, opening}
 use Rattle.model.specs.Run.{happens}
-use Rattle.model.specs.Forms.{read_metadata, read_message, read_transaction}
+use Rattle.model.specs.Forms.{read_message}
 use Rattle.model.specs.Built.{is_built}
 use Rattle.model.specs.Transcript.{Reached, goes, poll}
 
@@ -49,13 +52,12 @@ receive_line (Some c) (Some message) = Some (Act (Receive c message))
 receive_line (Some c) None = None
 receive_line None message = None
 
-abbrev pub commit_line : Option Transaction → Option Line
+abbrev pub commit_line : Option (List TxChange) → Option Line
 commit_line (Some tx) = Some (Act (Commit tx))
 commit_line None = None
 
-abbrev pub read_commit : List Table → List ℕ → Option Line
-read_commit [] text = None
-read_commit (table ∷ tables) text = commit_line (read_transaction table text)
+abbrev pub read_commit : List ℕ → Option Line
+read_commit text = commit_line (transaction text)
 
 abbrev pub is_space : ℕ → Bool
 is_space b = b == 32
@@ -64,16 +66,16 @@ abbrev pub read_receive : List ℕ → Option Line
 read_receive text = receive_line (read_number (2 ^ 32) (before_first is_space text)) (read_message (after_first is_space text))
 
 -- the event of a line, by its first word
-abbrev pub read_event : Meta → List ℕ → Option Line
+abbrev pub read_event : Metadata → List ℕ → Option Line
 read_event meta text =
     if same_text text (codes "poll") then Some Poll
     else (if starts_with ◌==◌ text (codes "open ") then connect_line (read_number (2 ^ 32) (drop 5 text))
     else (if starts_with ◌==◌ text (codes "recv ") then read_receive (drop 5 text)
-    else (if starts_with ◌==◌ text (codes "commit ") then read_commit meta.tables (drop 7 text)
+    else (if starts_with ◌==◌ text (codes "commit ") then read_commit (drop 7 text)
     else None)))
 
 -- An empty line or a comment is passed over. Any other line is of one of the forms that are read so far.
-abbrev pub read_line : Meta → List ℕ → Option Line
+abbrev pub read_line : Metadata → List ℕ → Option Line
 read_line meta [] = Some Passed
 read_line meta (b ∷ bs) = if b == 35 then Some Passed else (if is_ascii (b ∷ bs) then read_event meta (b ∷ bs) else None)
 
@@ -82,7 +84,7 @@ read_line meta (b ∷ bs) = if b == 35 then Some Passed else (if is_ascii (b ∷
 -- the metadata's lines with their line ends, or the state reached
 pub data Reading : Type 0 where
   Heading : (metadata : List ℕ) → Reading
-  Running : (meta : Meta) (state : State) → Reading
+  Running : (meta : Metadata) (state : State) → Reading
 
 pub data Reason : Type 0 where
   Cut : Reason
@@ -99,21 +101,21 @@ pub data Took : Type 0 where
   Went : (reading : Reading) (text : List ℕ) → Took
   Faulty : (reason : Reason) → Took
 
-abbrev pub went : Meta → Reached → Took
+abbrev pub went : Metadata → Reached → Took
 went meta r = Went (Running meta r.state) r.text
 
-abbrev pub act : Meta → State → Option Line → Took
+abbrev pub act : Metadata → State → Option Line → Took
 act meta s (Some Passed) = Went (Running meta s) []
 act meta s (Some Poll) = went meta (poll meta s)
 act meta s (Some (Act e)) = if is_built meta s e then went meta (goes e (happens meta s e)) else Faulty Unbuilt
 act meta s None = Faulty Unbuilt
 
-abbrev pub begin : Option Meta → Took
-begin (Some meta) = Went (Running meta opening) []
-begin None = Faulty Unbuilt
+abbrev pub begin : Result Metadata MetaFault → Took
+begin (Ok meta) = Went (Running meta opening) []
+begin (Err fault) = Faulty Unbuilt
 
 abbrev pub take_line : Reading → List ℕ → Took
-take_line (Heading metadata) text = if same_text text (codes "---") then begin (read_metadata metadata) else Went (Heading (metadata ++ text ++ 10 ∷ [])) []
+take_line (Heading metadata) text = if same_text text (codes "---") then begin (metadata_of metadata) else Went (Heading (metadata ++ text ++ 10 ∷ [])) []
 take_line (Running meta s) text = act meta s (read_line meta text)
 
 -- where reading stands after some lines: going on, or at the first fault

@@ -1,10 +1,11 @@
 -- The state of the machine, its events and its replies. This project's own, after Hasura's live query architecture.
 use Rattle.std.specs.Prelude.{ℕ, Bool, Option, List, []}
 use Rattle.scalar_val.specs.declared.val.Val.{Val}
-use Rattle.model.specs.Rows.{Transaction, Refusal}
+use Rattle.data_model.specs.declared.transaction.TxChange.{TxChange}
+use Rattle.data_model.specs.declared.transaction.TxFault.{TxFault}
+use Rattle.role_model.specs.declared.session.Session.{Session}
 use Rattle.model.specs.Queries.{Query}
 use Rattle.model.specs.Messages.{Message, CloseReason}
-use Rattle.model.specs.Admission.{Session}
 
 pub data Phase : Type 0 where
   Fresh : Phase
@@ -40,7 +41,7 @@ pub record Job : Type 0 where
 -- Transactions are those accepted, in order. Subscriptions stand in order of their numbers, from 1, ended ones among
 -- them. `due` ascends. `jobs` are the open ones, and `taken` counts all jobs.
 pub record State : Type 0 where
-  pub transactions : List Transaction
+  pub transactions : List (List TxChange)
   pub connections : List Connection
   pub subscriptions : List Subscription
   pub due : List ℕ
@@ -56,7 +57,7 @@ pub data Event : Type 0 where
   Binary : (connection : ℕ) → Event
   Timeout : (connection : ℕ) → Event
   Gone : (connection : ℕ) → Event
-  Commit : (transaction : Transaction) → Event
+  Commit : (transaction : List TxChange) → Event
   Tick : Event
   Take : Event
   Publish : (job : ℕ) → Event
@@ -77,7 +78,7 @@ pub data Reply : Type 0 where
   ConnectionKnown : Reply
   Did : Reply
   Committed : (version : ℕ) → Reply
-  Declined : (change : ℕ) (refusal : Refusal) → Reply
+  Declined : (fault : TxFault) → Reply
   Ticked : (count : ℕ) → Reply
   Nobody : Reply
   Taken : (job : Job) → Reply

@@ -2,9 +2,10 @@
 use Rattle.std.specs.Prelude.{ℕ, zero, suc, max, List, [], ◌∷◌, ◌++◌, length, codes, decimal}
 use Rattle.std.specs.List.{flat_map, fold}
 use Rattle.json.specs.Print.{quoted}
-use Rattle.model.specs.Rows.{Refusal, NoTable, NoRow, KeyTaken, TableFull}
+use Rattle.data_model.specs.declared.transaction.Reason.{Reason}
+use Rattle.data_model.specs.declared.transaction.Reason.TheVariants.{NoTable, NoColumn, WrongKind, NullGiven, NoRow, KeyTaken, UniqueTaken, TableFull}
 use Rattle.model.specs.Messages.{CloseReason, code, reason}
-use Rattle.model.specs.Admission.{Meta}
+use Rattle.role_model.specs.declared.metadata.Metadata.{Metadata}
 use Rattle.model.specs.State.{State, Event, Connect, Receive, Binary, Timeout, Gone, Commit, Tick, Take, Publish, Abandon, Drain, Report, Skip, Reply, ConnectionUnknown, ConnectionKnown, Committed, Declined, Ticked, Taken, Published, Abandoned, Sent, Done, Reported, Member, Job, Counts, Queued, Close, Step}
 use Rattle.model.specs.Run.{happens}
 
@@ -12,10 +13,14 @@ use Rattle.model.specs.Run.{happens}
 abbrev pub numbered : List ℕ → ℕ → List ℕ
 numbered word n = word ++ 32 ∷ decimal n
 
-abbrev pub refusal_name : Refusal → List ℕ
+abbrev pub refusal_name : Reason → List ℕ
 refusal_name NoTable = codes "NoTable"
+refusal_name NoColumn = codes "NoColumn"
+refusal_name WrongKind = codes "WrongKind"
+refusal_name NullGiven = codes "NullGiven"
 refusal_name NoRow = codes "NoRow"
 refusal_name KeyTaken = codes "KeyTaken"
+refusal_name UniqueTaken = codes "UniqueTaken"
 refusal_name TableFull = codes "TableFull"
 
 -- the cohorts of a job have the places from 1 on
@@ -41,7 +46,7 @@ connection_line word c _ = numbered word c
 
 abbrev pub commit_line : Reply → List ℕ
 commit_line (Committed version) = numbered (codes "commit") version
-commit_line (Declined change refusal) = numbered (codes "refused") change ++ 32 ∷ refusal_name refusal
+commit_line (Declined fault) = numbered (codes "refused") fault.change ++ 32 ∷ refusal_name fault.reason
 commit_line _ = []
 
 abbrev pub tick_line : Reply → List ℕ
@@ -107,16 +112,16 @@ abbrev pub goes_on : Reached → (State → Reached) → Reached
 goes_on first more = record { state = (more first.state).state; text = first.text ++ (more first.state).text }
 
 -- A take, and the publication of the taken job, whose number is that of all jobs taken.
-abbrev pub take_and_publish : Meta → State → Reached
+abbrev pub take_and_publish : Metadata → State → Reached
 take_and_publish meta s = goes_on (goes Take (happens meta s Take)) (λ t. goes (Publish t.taken) (happens meta t (Publish t.taken)))
 
 -- takes and publications for as long as somebody is due, but no more than so often
-abbrev pub publish_due : Meta → ℕ → State → List ℕ → Reached
+abbrev pub publish_due : Metadata → ℕ → State → List ℕ → Reached
 publish_due meta zero s due = record { state = s; text = [] }
 publish_due meta (suc n) s [] = record { state = s; text = [] }
 publish_due meta (suc n) s (d ∷ due) = goes_on (take_and_publish meta s) (λ t. publish_due meta n t t.due)
 
 -- A tick, and then takes and publications for as long as somebody is due. Each take leaves fewer due, so it is done
 -- after as many as were due.
-abbrev pub poll : Meta → State → Reached
+abbrev pub poll : Metadata → State → Reached
 poll meta s = goes_on (goes Tick (happens meta s Tick)) (λ t. publish_due meta (length t.due) t t.due)

@@ -2,10 +2,6 @@
 //! The types here are the plain data that the definitions and the other crates speak of.
 #![tactic(auto)]
 
-mod change;
-mod meta;
 mod queued;
 
-pub use change::{Change, Tx, ValList};
-pub use meta::{Meta, StrList};
 pub use queued::{Queued, QueuedList};
