@@ -12,3 +12,4 @@ pub mod Built
 pub mod Transcript
 pub mod Script
 pub mod Shown
+pub mod Laws
