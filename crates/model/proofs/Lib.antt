@@ -1,3 +1,6 @@
+pub mod Tests
 pub mod Runs
 pub mod AdmittedSubscribes
 pub mod ToldResults
+pub mod Following
+pub mod EndedSubscriptions
