@@ -44,7 +44,7 @@ same_alike = record { number = λ x. refl; connection = λ x. refl; id = λ x. r
 pub same_unmoved : Unmoved (λ x. x)
 same_unmoved = record { cursor = λ x. refl; last = λ x. refl }
 
-then_alike : (f g : Subscription → Subscription) → Alike f → Alike g → Alike (λ x. g (f x))
+pub then_alike : (f g : Subscription → Subscription) → Alike f → Alike g → Alike (λ x. g (f x))
 then_alike f g a b = record {
   number = λ x. b.number (f x) ∙ a.number x;
   connection = λ x. b.connection (f x) ∙ a.connection x;
@@ -107,7 +107,7 @@ chosen_live : (g : Subscription → Subscription) (b : Bool) (x : Subscription) 
 chosen_live g true x h e = h e
 chosen_live g false x h e = e
 
-at_alike : (number : ℕ) (g : Subscription → Subscription) → Alike g → Alike (at_subscription number g)
+pub at_alike : (number : ℕ) (g : Subscription → Subscription) → Alike g → Alike (at_subscription number g)
 at_alike number g a = record {
   number = λ x. chosen (λ (y : Subscription). y.number) g (x.number == number) x (a.number x);
   connection = λ x. chosen (λ (y : Subscription). y.connection) g (x.number == number) x (a.connection x);
@@ -116,10 +116,10 @@ at_alike number g a = record {
   live = λ x h. chosen_live g (x.number == number) x (a.live x) h;
 }
 
-remembers_alike : (text : List ℕ) → Alike (remembers text)
+pub remembers_alike : (text : List ℕ) → Alike (remembers text)
 remembers_alike text = record { number = λ x. refl; connection = λ x. refl; id = λ x. refl; query = λ x. refl; live = λ x h. h }
 
-moves_alike : (cursor : Val) → Alike (moves_to cursor)
+pub moves_alike : (cursor : Val) → Alike (moves_to cursor)
 moves_alike cursor = record { number = λ x. refl; connection = λ x. refl; id = λ x. refl; query = λ x. refl; live = λ x h. h }
 
 -- subscriptions that follow others one by one

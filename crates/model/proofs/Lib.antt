@@ -4,3 +4,5 @@ pub mod AdmittedSubscribes
 pub mod ToldResults
 pub mod Following
 pub mod EndedSubscriptions
+pub mod Finding
+pub mod Changes
