@@ -1,5 +1,26 @@
 use Rattle.model.proofs.AdmittedSubscribes.{admits_subscribes}
+use Rattle.model.proofs.Changes.{tells_changes}
+use Rattle.model.proofs.EndedSubscriptions.{ends_for_good, answers_once, closes_end, gone_ends}
+use Rattle.model.proofs.ToldResults.{results_are_of_turns}
 use Rattle.model.proofs.laws.run_laws.Goals as goal
 
-pub returns : goal.returns
-returns c = record { admission = admits_subscribes }
+pub returns-clause-results : goal.returns-clause-results
+returns-clause-results c = results_are_of_turns
+
+pub returns-clause-change : goal.returns-clause-change
+returns-clause-change c = tells_changes
+
+pub returns-clause-completion : goal.returns-clause-completion
+returns-clause-completion c = ends_for_good
+
+pub returns-clause-once : goal.returns-clause-once
+returns-clause-once c = answers_once
+
+pub returns-clause-closes : goal.returns-clause-closes
+returns-clause-closes c = closes_end
+
+pub returns-clause-gone : goal.returns-clause-gone
+returns-clause-gone c = gone_ends
+
+pub returns-clause-admission : goal.returns-clause-admission
+returns-clause-admission c = admits_subscribes
