@@ -6,3 +6,6 @@ pub mod Following
 pub mod EndedSubscriptions
 pub mod Finding
 pub mod Changes
+pub mod Among
+pub mod SameCohort
+pub mod Apart

@@ -3,7 +3,6 @@
 -- live query architecture.
 use Rattle.std.specs.Prelude.{◌≡◌, ◌≢◌, ◌≤◌, ◌<◌, ℕ, Bool, true, false, ◌&&◌, ◌==◌, ⊤, if◌then◌else◌, is_some, Option, Some, None, List, [], ◌∷◌, ◌++◌, length, map, filter, codes}
 use Rattle.std.specs.List.{list_any, flat_map, starts_with, AllByRecursion}
-use Rattle.std.specs.List.Sorted.{IsNonDecreasing}
 use Rattle.scalar_val.specs.declared.val.Val.{Val}
 use Rattle.data_model.specs.Rows.{Database}
 use Rattle.role_model.specs.declared.metadata.Metadata.{Metadata}
@@ -90,9 +89,14 @@ ResultsAreOfTurns meta = (h : List Event) → nexts (flat_map (λ s. s.queued) (
 abbrev pub version_of : State → ℕ
 version_of s = length s.transactions
 
--- a subscription never returns to an older snapshot
+-- the relation holds of each item and each later one
+abbrev pub EachPair : {X : Type 0} → (X → X → Type 0) → List X → Type 0
+EachPair R [] = ⊤
+EachPair R (x ∷ xs) = AllByRecursion (R x) xs × EachPair R xs
+
+-- A subscription never returns to an older snapshot: each version is at most each later one.
 abbrev pub NeverReturns : Metadata → Type 0
-NeverReturns meta = (h : List Event) (number : ℕ) → IsNonDecreasing (versions meta h number)
+NeverReturns meta = (h : List Event) (number : ℕ) → EachPair ◌≤◌ (versions meta h number)
 
 -- No snapshot of a subscription is older than its subscribe: than any state in which there was no subscription of its
 -- number yet.
@@ -175,11 +179,6 @@ AdmitsSubscribes meta =
         length (subscribes meta (run meta h) connection.number id request).subscriptions ≡ length (run meta h).subscriptions)
 
 -- Batches
-
--- the relation holds of each item and each later one
-abbrev pub EachPair : {X : Type 0} → (X → X → Type 0) → List X → Type 0
-EachPair R [] = ⊤
-EachPair R (x ∷ xs) = AllByRecursion (R x) xs × EachPair R xs
 
 -- no subscription is a member of both jobs
 abbrev pub HaveNoCommonMember : Job → Job → Type 0
