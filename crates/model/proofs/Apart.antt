@@ -42,7 +42,7 @@ pub record Sound (s : State) : Type 0 where
 
 -- cohorts
 
-cohort_own : (a : Subscription) → are_of_one_cohort a a ≡ true
+pub cohort_own : (a : Subscription) → are_of_one_cohort a a ≡ true
 cohort_own a = cohort_equiv.refl a
 
 pub cohort_symm : (a b : Subscription) → are_of_one_cohort a b ≡ true → are_of_one_cohort b a ≡ true
@@ -89,7 +89,7 @@ due_apart s w x o i a d b c h m = true≢false (sym (busy_by s.subscriptions s.j
 
 -- Subscriptions that change and perhaps one more
 
-numbered_mapped : (f : Subscription → Subscription) → Alike f → (subs : List Subscription) → AreNumbered subs → AreNumbered (map f subs)
+pub numbered_mapped : (f : Subscription → Subscription) → Alike f → (subs : List Subscription) → AreNumbered subs → AreNumbered (map f subs)
 numbered_mapped f a subs w = record {
   bounded = λ y b.
       let r = among_map f subs y b in
@@ -105,7 +105,7 @@ numbered_mapped f a subs w = record {
       p.2 ∙ ap f (w.unique p.0 q.0 p.1 q.1 (sym first ∙ e ∙ second)) ∙ sym q.2;
 }
 
-numbered_newer : (subs more : List Subscription) → AreNumbered subs → IsNewer (length subs) more → AreNumbered (subs ++ more)
+pub numbered_newer : (subs more : List Subscription) → AreNumbered subs → IsNewer (length subs) more → AreNumbered (subs ++ more)
 numbered_newer subs [] w new = subst AreNumbered (sym (append-nil subs)) w
 numbered_newer subs (n ∷ []) w new = record {
   bounded = λ y b.

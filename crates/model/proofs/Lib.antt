@@ -9,3 +9,5 @@ pub mod Changes
 pub mod Among
 pub mod SameCohort
 pub mod Apart
+pub mod Moves
+pub mod Publishing
