@@ -11,3 +11,4 @@ pub mod SameCohort
 pub mod Apart
 pub mod Moves
 pub mod Publishing
+pub mod Taking
