@@ -12,3 +12,4 @@ pub mod Apart
 pub mod Moves
 pub mod Publishing
 pub mod Taking
+pub mod SoundRuns
