@@ -117,15 +117,15 @@ pub all_from_among : {X : Type 0} (P : X → Type 0) (xs : List X) → ((x : X) 
 all_from_among P [] h = tt
 all_from_among P (x ∷ xs) h = (h x (inl refl), all_from_among P xs (λ y a. h y (inr a)))
 
+pub all_among : {X : Type 0} (P : X → Type 0) (xs : List X) (x : X) → Among x xs → AllByRecursion P xs → P x
+all_among P [] x a h = absurd a
+all_among {X} P (z ∷ xs) x (inl e) h = subst P (sym e) h.0
+all_among P (z ∷ xs) x (inr a) h = all_among P xs x a h.1
+
 pub pairs_then : {X : Type 0} (R S : X → X → Type 0) (xs : List X) → ((x y : X) → Among x xs → Among y xs → R x y → S x y) → EachPair R xs → EachPair S xs
 pairs_then R S [] h p = tt
 pairs_then R S (x ∷ xs) h p =
     (all_from_among (S x) xs (λ y a. h x y (inl refl) (inr a) (all_among (R x) xs y a p.0)), pairs_then R S xs (λ y z a b. h y z (inr a) (inr b)) p.1)
-  where
-    all_among : {X : Type 0} (P : X → Type 0) (xs : List X) (x : X) → Among x xs → AllByRecursion P xs → P x
-    all_among P [] x a h = absurd a
-    all_among {X} P (z ∷ xs) x (inl e) h = subst P (sym e) h.0
-    all_among P (z ∷ xs) x (inr a) h = all_among P xs x a h.1
 
 all_cond : {X : Type 0} (P : X → Type 0) (b : Bool) (x : X) (xs : List X) → P x → AllByRecursion P xs → AllByRecursion P (cond b (x ∷ xs) xs)
 all_cond P true x xs h i = (h, i)

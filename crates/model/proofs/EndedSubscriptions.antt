@@ -54,7 +54,7 @@ proceeds_ended still subs after p number le h =
     ∙ or_both (list_any (lives number) (map p.change subs)) (list_any (lives number) p.more)
         (none_mapped (lives number) p.change (change_ended p.change p.alike number) subs h) (newer_ended (length subs) number le p.more p.newer)
 
-proceeds_longer : (still : Type 0) (subs after : List Subscription) → Proceeds still subs after → length subs ≤ length after
+pub proceeds_longer : (still : Type 0) (subs after : List Subscription) → Proceeds still subs after → length subs ≤ length after
 proceeds_longer still subs after p =
     let whole = ap (λ (l : List Subscription). length l) p.is in
     let both = length-append (map p.change subs) p.more in

@@ -13,3 +13,4 @@ pub mod Moves
 pub mod Publishing
 pub mod Taking
 pub mod SoundRuns
+pub mod Order

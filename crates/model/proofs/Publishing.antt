@@ -19,16 +19,16 @@ use Rattle.model.proofs.Apart.{HaveOtherNumbers, Sound, busy_by, cohort_own}
 use Rattle.model.proofs.Moves.{Moves, moves_sound, DueLive, sound_live, due_live_mapped, due_live_ended, due_without, same_due, among_mapped}
 
 -- from one turn to a later one in the publication of a job
-record Publishing (job : Job) (s t : State) : Type 0 where
-  change : Subscription → Subscription
-  alike : Alike change
-  subs : t.subscriptions ≡ map change s.subscriptions
-  moved : (x : Subscription) → ((change x).cursor ≡ x.cursor) ⊎ (is_member x.number job ≡ true)
-  due_in : (number : ℕ) → Among number t.due → Among number s.due
-  due_live : DueLive s.subscriptions s.due → DueLive t.subscriptions t.due
-  jobs : t.jobs ≡ s.jobs
-  taken : t.taken ≡ s.taken
-  version : version_of t ≡ version_of s
+pub record Publishing (job : Job) (s t : State) : Type 0 where
+  pub change : Subscription → Subscription
+  pub alike : Alike change
+  pub subs : t.subscriptions ≡ map change s.subscriptions
+  pub moved : (x : Subscription) → ((change x).cursor ≡ x.cursor) ⊎ (is_member x.number job ≡ true)
+  pub due_in : (number : ℕ) → Among number t.due → Among number s.due
+  pub due_live : DueLive s.subscriptions s.due → DueLive t.subscriptions t.due
+  pub jobs : t.jobs ≡ s.jobs
+  pub taken : t.taken ≡ s.taken
+  pub version : version_of t ≡ version_of s
 
 publishing_same : (job : Job) (s : State) → Publishing job s s
 publishing_same job s = record {
@@ -135,7 +135,7 @@ member_publishing meta db job m s (Some sub) at a =
     if_publishing job s sub.live (publish_kind sub.query.kind sub (result meta sub.query sub.cursor db) s) (nothing s)
         (kind_publishing job sub.query.kind sub (result meta sub.query sub.cursor db) s member) (publishing_same job s)
 
-members_publishing : (meta : Metadata) (db : Database) (job : Job) (ms : List Member) (s : State) → ((m : Member) → Among m ms → Among m job.members) → Publishing job s (publish_members meta db ms s).state
+pub members_publishing : (meta : Metadata) (db : Database) (job : Job) (ms : List Member) (s : State) → ((m : Member) → Among m ms → Among m job.members) → Publishing job s (publish_members meta db ms s).state
 members_publishing meta db job [] s h = publishing_same job s
 members_publishing meta db job (m ∷ ms) s h =
     let sub = subscription_at m.subscription s.subscriptions in
@@ -143,11 +143,11 @@ members_publishing meta db job (m ∷ ms) s h =
     publishing_then job s after (publish_members meta db ms after).state (member_publishing meta db job m s sub refl (h m (inl refl))) (members_publishing meta db job ms after (λ k a. h k (inr a)))
 
 -- a job that is left has another number
-left_job : (number : ℕ) (jobs : List Job) (job : Job) → Among job (without_job number jobs) → Among job jobs × ((job.number == number) ≡ false)
+pub left_job : (number : ℕ) (jobs : List Job) (job : Job) → Among job (without_job number jobs) → Among job jobs × ((job.number == number) ≡ false)
 left_job number jobs job a = let r = among_filter (λ j. not (is_job number j)) job jobs a in (r.0, not-true (is_job number job) r.1)
 
 -- no member of the job that is published is one of another job, or due
-others_free : (s : State) → Sound s → (number : ℕ) (job : Job) → job_at number s.jobs ≡ Some job → (x : Subscription) → Among x s.subscriptions → is_member x.number job ≡ true →
+pub others_free : (s : State) → Sound s → (number : ℕ) (job : Job) → job_at number s.jobs ≡ Some job → (x : Subscription) → Among x s.subscriptions → is_member x.number job ≡ true →
     ((other : Job) → Among other (without_job number s.jobs) → is_member x.number other ≡ false) × (is_due s.due x ≡ false)
 others_free s w number job at x a h =
     let found = found_among (is_job number) s.jobs job at in

@@ -1,14 +1,30 @@
-ghost use Rattle.model.specs.Laws.{ResultsAreOfTurns, TellsChanges, EndsForGood, AnswersOnce, ClosesEnd, GoneEnds, AdmitsSubscribes};
+ghost use Rattle.model.specs.Laws.{ResultsAreOfTurns, NeverReturns, BeginsAtItsSubscribe, TellsChanges, EndsForGood, AnswersOnce, ClosesEnd, GoneEnds, AdmitsSubscribes, KeepsBatchesApart};
 
 use role_model::Metadata;
 
-/// What holds of every run of the machine, whatever its metadata and events.
+/// What holds of every run of the machine, whatever its metadata and its events. A subscription's turn is its part in a
+/// publication of which it is a live member.
+///
+/// - `results`: each `next` text is queued at a turn.
+/// - `order`, `beginning`: the versions of a subscription's turns never fall, and none is below the version at its
+///   subscribe.
+/// - `change`: two consecutive texts that a live query is told differ.
+/// - `completion`, `once`: a subscription has no turn after its end, and the event that answers a query which is answered
+///   once completes and ends it.
+/// - `closes`, `gone`: a close or the end of a connection ends its subscriptions.
+/// - `admission`: a subscribe on an acknowledged connection, with an id that isn't live there, becomes a live subscription
+///   exactly where its request is admitted.
+/// - `batches`: a subscription is a member of at most one open job, members of one cohort are in the same one, and who is
+///   due is live and of a cohort without a member in an open job.
 pub fn run_laws()
     ensures results { (meta : Metadata) → ResultsAreOfTurns meta }
+    ensures order { (meta : Metadata) → NeverReturns meta }
+    ensures beginning { (meta : Metadata) → BeginsAtItsSubscribe meta }
     ensures change { (meta : Metadata) → TellsChanges meta }
     ensures completion { (meta : Metadata) → EndsForGood meta }
     ensures once { (meta : Metadata) → AnswersOnce meta }
     ensures closes { (meta : Metadata) → ClosesEnd meta }
     ensures gone { (meta : Metadata) → GoneEnds meta }
     ensures admission { (meta : Metadata) → AdmitsSubscribes meta }
+    ensures batches { (meta : Metadata) → KeepsBatchesApart meta }
 {}

@@ -1,11 +1,19 @@
 use Rattle.model.proofs.AdmittedSubscribes.{admits_subscribes}
 use Rattle.model.proofs.Changes.{tells_changes}
 use Rattle.model.proofs.EndedSubscriptions.{ends_for_good, answers_once, closes_end, gone_ends}
+use Rattle.model.proofs.Order.{never_returns, begins_at_its_subscribe}
+use Rattle.model.proofs.SoundRuns.{keeps_batches_apart}
 use Rattle.model.proofs.ToldResults.{results_are_of_turns}
 use Rattle.model.proofs.laws.run_laws.Goals as goal
 
 pub returns-clause-results : goal.returns-clause-results
 returns-clause-results c = results_are_of_turns
+
+pub returns-clause-order : goal.returns-clause-order
+returns-clause-order c = never_returns
+
+pub returns-clause-beginning : goal.returns-clause-beginning
+returns-clause-beginning c = begins_at_its_subscribe
 
 pub returns-clause-change : goal.returns-clause-change
 returns-clause-change c = tells_changes
@@ -24,3 +32,6 @@ returns-clause-gone c = gone_ends
 
 pub returns-clause-admission : goal.returns-clause-admission
 returns-clause-admission c = admits_subscribes
+
+pub returns-clause-batches : goal.returns-clause-batches
+returns-clause-batches c = keeps_batches_apart
