@@ -1,19 +1,22 @@
 -- Which queries are admitted, test by test.
-use Rattle.std.proofs.Common.{◌≡◌, ◌∙◌, sym, ap, subst, refl, ℕ, ◌-◌, Bool, true, false, ◌&&◌, if◌then◌else◌, cond, Option, Some, None, List, [], ◌∷◌, map, length, take, drop}
+use Rattle.std.proofs.Common.{◌≡◌, ◌∙◌, sym, ap, refl, ℕ, ◌-◌, Bool, true, false, ◌&&◌, if◌then◌else◌, Option, Some, None, List, [], map, length, take, drop}
 use Rattle.std.proofs.lemmas.List.{length-map}
+use Rattle.std.specs.List.{list_all}
 use denote.Ref.{Bor}
 use Rattle.scalar_val.specs.declared.val.Val.TheVariants as val
-use Rattle.model.specs.Values.{same_text}
-use Rattle.model.specs.Queries.{Columns, SubscriptionWord, Live, slice_at}
+use Rattle.data_model.specs.declared.catalog.TableDef.{TableDef}
+use Rattle.role_model.specs.declared.metadata.Metadata.{Metadata}
+use Rattle.role_model.specs.Roles.{table_at, table_seen}
+use Rattle.model.specs.Values.{same_text, is_name}
+use Rattle.model.specs.Queries.{Columns, SubscriptionWord, Live, SessionValue}
 use Rattle.model.specs.Forms.{piece}
 use Rattle.model.specs.Messages.{Request}
-use Rattle.model.specs.Admission.{Admission, Admits, Unread, admits, admits_selection, admits_columns, visible_in, words, query_text, are_distinct, all_among}
+use Rattle.model.specs.Admission.{Admission, Admits, Unread, admits, admits_selection, admits_columns, admitted_with, slots_by, slot_values, session_values, sees_columns, words, query_text, are_distinct}
 use Rattle.model.specs.Built.{is_admitted}
-use Rattle.model.specs.Shown.{table_of, meta_of}
-use Rattle.model.specs.declared.meta.Meta.{Meta}
-use Rattle.hub.specs.declared.plan.Field.{Field}
-use Rattle.hub.specs.Plans.{administrator, query_of, IsPlan, AreFields}
-use Rattle.hub.proofs.Same.{text_same}
+use Rattle.hub.specs.declared.plan.Plan.{Plan}
+use Rattle.hub.specs.Plans.{administrator, seen_by_all, AreFields, IsPlanOf}
+
+-- the parts of a query in the one form, and whether it has the form
 
 abbrev pub table_in : List ℕ → List ℕ
 table_in text = piece 2 (words text)
@@ -21,45 +24,25 @@ table_in text = piece 2 (words text)
 abbrev pub columns_in : List ℕ → List (List ℕ)
 columns_in text = drop 4 (take (length (words text) - 2) (words text))
 
+abbrev pub has_form : List ℕ → List ℕ → List (List ℕ) → Bool
+has_form text table columns = same_text text (query_text table columns) && (is_name table && list_all is_name columns)
+
 abbrev asks : List ℕ → Request
 asks text = record { query = text; operation = None }
 
-at_form : (meta : Meta) (text : List ℕ) (form : Bool) → same_text text (query_text (table_in text) (columns_in text)) ≡ form → admits (meta_of meta) administrator (asks text) ≡ admits_selection (table_of meta ∷ []) administrator (if form then Some (Columns (table_in text) (columns_in text)) else None)
-at_form meta text form e = ap (λ (f : Bool). admits_selection (table_of meta ∷ []) administrator (if f then Some (Columns (table_in text) (columns_in text)) else None)) e
+at_form : (meta : Metadata) (text : List ℕ) (form : Bool) → has_form text (table_in text) (columns_in text) ≡ form → admits meta administrator (asks text) ≡ admits_selection (seen_by_all meta) administrator (if form then Some (Columns (table_in text) (columns_in text)) else None)
+at_form meta text form e = ap (λ (f : Bool). admits_selection (seen_by_all meta) administrator (if f then Some (Columns (table_in text) (columns_in text)) else None)) e
 
-abbrev at_place : Meta → List ℕ → List (List ℕ) → Option ℕ → Admission
-at_place meta table columns place =
-    admits_columns administrator (Columns table columns) columns (slice_at (table_of meta ∷ []) place) (visible_in administrator.role (slice_at (table_of meta ∷ []) place))
-
-at_table : (meta : Meta) (table : List ℕ) (columns : List (List ℕ)) (here : Bool) → same_text table meta.table ≡ here → admits_selection (table_of meta ∷ []) administrator (Some (Columns table columns)) ≡ at_place meta table columns (cond here (Some 0) None)
-at_table meta table columns here e = ap (λ (h : Bool). at_place meta table columns (cond h (Some 0) None)) e
-
-at_columns : (meta : Meta) (table : List ℕ) (columns : List (List ℕ)) (fine : Bool) → (are_distinct columns && all_among columns meta.columns) ≡ fine → at_place meta table columns (Some 0) ≡ (if fine then Admits (record { word = SubscriptionWord; kind = Live; role = administrator.role; selection = Columns table columns; variables = []; session = [] }) val.Null else Unread)
-at_columns meta table columns fine e = ap (λ (f : Bool). if f then Admits (record { word = SubscriptionWord; kind = Live; role = administrator.role; selection = Columns table columns; variables = []; session = [] }) val.Null else Unread) e
-
-and_false : (a : Bool) → (a && false) ≡ false
-and_false true = refl
-and_false false = refl
-
-pub no_form : (meta : Meta) (text : List ℕ) → same_text text (query_text (table_in text) (columns_in text)) ≡ false → is_admitted (admits (meta_of meta) administrator (asks text)) ≡ false
+pub no_form : (meta : Metadata) (text : List ℕ) → has_form text (table_in text) (columns_in text) ≡ false → is_admitted (admits meta administrator (asks text)) ≡ false
 no_form meta text e = ap is_admitted (at_form meta text false e)
 
-pub no_table : (meta : Meta) (text : List ℕ) → same_text text (query_text (table_in text) (columns_in text)) ≡ true → same_text (table_in text) meta.table ≡ false → is_admitted (admits (meta_of meta) administrator (asks text)) ≡ false
-no_table meta text e t = ap is_admitted (at_form meta text true e ∙ at_table meta (table_in text) (columns_in text) false t)
+-- in the form, by the parts that the code found
+pub in_form : (meta : Metadata) (text table : List ℕ) (columns : List (List ℕ)) → table ≡ table_in text → columns ≡ columns_in text → has_form text (table_in text) (columns_in text) ≡ true → admits meta administrator (asks text) ≡ admits_columns (seen_by_all meta) administrator table columns (table_seen (seen_by_all meta) table)
+in_form meta text table columns et ec e =
+    at_form meta text true e
+    ∙ ap (λ (t : List ℕ). admits_columns (seen_by_all meta) administrator t (columns_in text) (table_seen (seen_by_all meta) t)) (sym et)
+    ∙ ap (λ (cs : List (List ℕ)). admits_columns (seen_by_all meta) administrator table cs (table_seen (seen_by_all meta) table)) (sym ec)
 
-here_is : (meta : Meta) (text : List ℕ) → same_text text (query_text (table_in text) (columns_in text)) ≡ true → same_text (table_in text) meta.table ≡ true → (fine : Bool) → (are_distinct (columns_in text) && all_among (columns_in text) meta.columns) ≡ fine → admits (meta_of meta) administrator (asks text) ≡ (if fine then Admits (record { word = SubscriptionWord; kind = Live; role = administrator.role; selection = Columns (table_in text) (columns_in text); variables = []; session = [] }) val.Null else Unread)
-here_is meta text e t fine f = at_form meta text true e ∙ at_table meta (table_in text) (columns_in text) true t ∙ at_columns meta (table_in text) (columns_in text) fine f
-
-pub no_columns : (meta : Meta) (text : List ℕ) → same_text text (query_text (table_in text) (columns_in text)) ≡ true → same_text (table_in text) meta.table ≡ true → all_among (columns_in text) meta.columns ≡ false → is_admitted (admits (meta_of meta) administrator (asks text)) ≡ false
-no_columns meta text e t a = ap is_admitted (here_is meta text e t false (ap (λ (b : Bool). are_distinct (columns_in text) && b) a ∙ and_false _))
-
-pub not_distinct : (meta : Meta) (text : List ℕ) → same_text text (query_text (table_in text) (columns_in text)) ≡ true → same_text (table_in text) meta.table ≡ true → are_distinct (columns_in text) ≡ false → is_admitted (admits (meta_of meta) administrator (asks text)) ≡ false
-not_distinct meta text e t d = ap is_admitted (here_is meta text e t false (ap (λ (b : Bool). b && all_among (columns_in text) meta.columns) d))
-
-pub is_fine : (meta : Meta) (text : List ℕ) → same_text text (query_text (table_in text) (columns_in text)) ≡ true → same_text (table_in text) meta.table ≡ true → are_distinct (columns_in text) ≡ true → all_among (columns_in text) meta.columns ≡ true → admits (meta_of meta) administrator (asks text) ≡ Admits (record { word = SubscriptionWord; kind = Live; role = administrator.role; selection = Columns (table_in text) (columns_in text); variables = []; session = [] }) val.Null
-is_fine meta text e t d a = here_is meta text e t true (ap (λ (b : Bool). b && all_among (columns_in text) meta.columns) d ∙ a)
-
--- the parts that the code found
 pub table_found : (ws : List (Bor (List ℕ))) (text t : List ℕ) → t ≡ piece 2 (map (λ (w : Bor (List ℕ)). w.now) ws) → map (λ (w : Bor (List ℕ)). w.now) ws ≡ words text → t ≡ table_in text
 table_found ws text t e w = e ∙ ap (piece 2) w
 
@@ -68,30 +51,42 @@ columns_found ws text cs e w =
     e ∙ ap (λ (n : ℕ). drop 4 (take (n - 2) (map (λ (w : Bor (List ℕ)). w.now) ws))) (sym (length-map ws (λ (w : Bor (List ℕ)). w.now)))
     ∙ ap (λ (ws : List (List ℕ)). drop 4 (take (length ws - 2) ws)) w
 
-pub form_found : (text t : List ℕ) (cs : List (List ℕ)) (b : Bool) → t ≡ table_in text → cs ≡ columns_in text → b ≡ same_text text (query_text t cs) → same_text text (query_text (table_in text) (columns_in text)) ≡ b
-form_found text t cs b et ec h = sym (h ∙ ap (λ (t : List ℕ). same_text text (query_text t cs)) et ∙ ap (λ (cs : List (List ℕ)). same_text text (query_text (table_in text) cs)) ec)
+pub form_found : (text t : List ℕ) (cs : List (List ℕ)) (b : Bool) → t ≡ table_in text → cs ≡ columns_in text → b ≡ has_form text t cs → has_form text (table_in text) (columns_in text) ≡ b
+form_found text t cs b et ec h = sym (h ∙ ap (λ (t : List ℕ). has_form text t cs) et ∙ ap (λ (cs : List (List ℕ)). has_form text (table_in text) cs) ec)
 
-pub table_same : (text t u name : List ℕ) (b : Bool) → t ≡ table_in text → u ≡ name → b ≡ same_text t u → same_text (table_in text) name ≡ b
-table_same text t u name b et eu h = sym (h ∙ ap (λ (t : List ℕ). same_text t u) et ∙ ap (λ (u : List ℕ). same_text (table_in text) u) eu)
+-- Columns of a table
 
-pub fields_no : (text : List ℕ) (cs : List (List ℕ)) (known known' : List (List ℕ)) (r : Option (List Field)) → cs ≡ columns_in text → known' ≡ known → r ≡ None → AreFields known' cs r → all_among (columns_in text) known ≡ false
-fields_no text cs known known' r ec ek er h =
-    let at_none : all_among cs known' ≡ false = subst (AreFields known' cs) er h in
-    sym (ap (λ (cs : List (List ℕ)). all_among cs known) ec) ∙ sym (ap (λ (k : List (List ℕ)). all_among cs k) ek) ∙ at_none
+abbrev verdict : Metadata → List ℕ → List (List ℕ) → ℕ → Bool → Admission
+verdict meta name names table fine = if fine then admitted_with administrator.role (Columns name names) (session_values (seen_by_all meta) administrator table) else Unread
 
-pub fields_yes : (text : List ℕ) (cs : List (List ℕ)) (known known' : List (List ℕ)) (r : Option (List Field)) (fields : List Field) → known' ≡ known → r ≡ Some fields → AreFields known' cs r → AreFields known cs (Some fields)
-fields_yes text cs known known' r fields ek er h = subst (λ (k : List (List ℕ)). AreFields k cs (Some fields)) ek (subst (AreFields known' cs) er h)
+at_columns : (meta : Metadata) (name : List ℕ) (names : List (List ℕ)) (table : ℕ) (fine : Bool) → Some table ≡ table_seen (seen_by_all meta) name → (are_distinct names && sees_columns (seen_by_all meta) table names) ≡ fine → admits_columns (seen_by_all meta) administrator name names (table_seen (seen_by_all meta) name) ≡ verdict meta name names table fine
+at_columns meta name names table fine t e = ap (λ (o : Option ℕ). admits_columns (seen_by_all meta) administrator name names o) (sym t) ∙ ap (verdict meta name names table) e
 
-pub distinct_no : (text : List ℕ) (cs : List (List ℕ)) (b : Bool) → cs ≡ columns_in text → b ≡ are_distinct cs → are_distinct (columns_in text) ≡ b
-distinct_no text cs b ec h = sym (h ∙ ap are_distinct ec)
+and_false : (a : Bool) → (a && false) ≡ false
+and_false true = refl
+and_false false = refl
 
-pub plan_yes : (meta : Meta) (text : List ℕ) (cs : List (List ℕ)) (fields : List Field) (table : List ℕ) → same_text text (query_text (table_in text) (columns_in text)) ≡ true → same_text (table_in text) meta.table ≡ true → cs ≡ columns_in text → table ≡ meta.table → are_distinct (columns_in text) ≡ true → AreFields meta.columns cs (Some fields) → (admits (meta_of meta) administrator (asks text) ≡ Admits (query_of (record { table = table; fields = fields })) val.Null) × IsPlan meta (record { table = table; fields = fields })
-plan_yes meta text cs fields table e t ec et d h =
-    let among : all_among (columns_in text) meta.columns ≡ true = sym (ap (λ (cs : List (List ℕ)). all_among cs meta.columns) ec) ∙ h.2 in
-    let name : table_in text ≡ table = text_same (table_in text) meta.table t ∙ sym et in
-    let columns : columns_in text ≡ map (λ (f : Field). f.name) fields = sym ec ∙ sym h.0 in (
-      is_fine meta text e t d among
-          ∙ ap (λ (name : List ℕ). Admits (record { word = SubscriptionWord; kind = Live; role = administrator.role; selection = Columns name (columns_in text); variables = []; session = [] }) val.Null) name
-          ∙ ap (λ (cs : List (List ℕ)). Admits (record { word = SubscriptionWord; kind = Live; role = administrator.role; selection = Columns table cs; variables = []; session = [] }) val.Null) columns,
-      record { table = et; fields = h.1 },
-    )
+pub no_table : (meta : Metadata) (name : List ℕ) (names : List (List ℕ)) → None ≡ table_seen (seen_by_all meta) name → is_admitted (admits_columns (seen_by_all meta) administrator name names (table_seen (seen_by_all meta) name)) ≡ false
+no_table meta name names t = ap (λ (o : Option ℕ). is_admitted (admits_columns (seen_by_all meta) administrator name names o)) (sym t)
+
+pub not_distinct : (meta : Metadata) (name : List ℕ) (names : List (List ℕ)) (table : ℕ) → Some table ≡ table_seen (seen_by_all meta) name → are_distinct names ≡ false → is_admitted (admits_columns (seen_by_all meta) administrator name names (table_seen (seen_by_all meta) name)) ≡ false
+not_distinct meta name names table t d = ap is_admitted (at_columns meta name names table false t (ap (λ (b : Bool). b && sees_columns (seen_by_all meta) table names) d))
+
+pub no_columns : (meta : Metadata) (name : List ℕ) (names : List (List ℕ)) (table : ℕ) → Some table ≡ table_seen (seen_by_all meta) name → sees_columns (seen_by_all meta) table names ≡ false → is_admitted (admits_columns (seen_by_all meta) administrator name names (table_seen (seen_by_all meta) name)) ≡ false
+no_columns meta name names table t s = ap is_admitted (at_columns meta name names table false t (ap (λ (b : Bool). are_distinct names && b) s ∙ and_false _))
+
+no_slots : (o : Option TableDef) → slots_by o None ≡ []
+no_slots None = refl
+no_slots (Some table) = refl
+
+-- an administrator's queries have no session values
+no_session : (meta : Metadata) (table : ℕ) → session_values (seen_by_all meta) administrator table ≡ Some []
+no_session meta table = ap (slot_values (seen_by_all meta) administrator) (no_slots (table_at (seen_by_all meta) table))
+
+pub plan_is : (meta : Metadata) (plan : Plan) (names : List (List ℕ)) → Some plan.table ≡ table_seen (seen_by_all meta) plan.name → are_distinct names ≡ true → AreFields (seen_by_all meta) plan.table names (Some plan.fields) → IsPlanOf meta (admits_columns (seen_by_all meta) administrator plan.name names (table_seen (seen_by_all meta) plan.name)) (Some plan)
+plan_is meta plan names t d f = (
+  at_columns meta plan.name names plan.table true t (ap (λ (b : Bool). b && sees_columns (seen_by_all meta) plan.table names) d ∙ f.2)
+      ∙ ap (λ (o : Option (List SessionValue)). admitted_with administrator.role (Columns plan.name names) o) (no_session meta plan.table)
+      ∙ ap (λ (ns : List (List ℕ)). Admits (record { word = SubscriptionWord; kind = Live; role = administrator.role; selection = Columns plan.name ns; variables = []; session = [] }) val.Null) (sym f.0),
+  record { table = sym t; fields = f.1 },
+)

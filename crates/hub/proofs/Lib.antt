@@ -6,6 +6,7 @@ pub mod Same
 pub mod Cohorts
 pub mod Results
 pub mod Events
+pub mod Fitting
 pub mod Takes
 pub mod Commits
 pub mod Admits

@@ -2,8 +2,8 @@
 use Rattle.std.proofs.Common.{◌≡◌, ◌∙◌, sym, ap, subst, ◌+◌, true, false, List, [], ◌∷◌, ◌++◌, length, inl, inr, arith, length-append, append-nil}
 use mathlib.Core.Logic.{◌⊎◌}
 use Rattle.std.specs.List.{AllByRecursion}
-use Rattle.model.specs.Rows.{Transaction}
-use Rattle.model.specs.Admission.{Meta}
+use Rattle.data_model.specs.declared.transaction.TxChange.{TxChange}
+use Rattle.role_model.specs.declared.metadata.Metadata.{Metadata}
 use Rattle.model.specs.State.{State, Event, Reply, Queued, Job, Step}
 use Rattle.model.specs.Run.{happens, run}
 use Rattle.model.specs.Built.{is_built}
@@ -22,7 +22,7 @@ pub record StepsTo (k k' : Kept) (e : Event) (reply : Reply) (queued : List Queu
   pub jobs : (k'.jobs ≡ []) ⊎ ((k'.jobs ≡ k.jobs) × (k'.subscriptions ≡ k.subscriptions))
   pub none : (s : State) → taking_of s reply ≡ []
 
-stays_open : (k k' : Kept) (txs : List Transaction) (h : List Event) (e : Event) → k'.meta ≡ k.meta → k'.subscriptions ≡ k.subscriptions → (jobs : List Job) → AllByRecursion (IsOpen k txs h) jobs → AllByRecursion (IsOpen k' txs (h ++ e ∷ [])) jobs
+stays_open : (k k' : Kept) (txs : List (List TxChange)) (h : List Event) (e : Event) → k'.meta ≡ k.meta → k'.subscriptions ≡ k.subscriptions → (jobs : List Job) → AllByRecursion (IsOpen k txs h) jobs → AllByRecursion (IsOpen k' txs (h ++ e ∷ [])) jobs
 stays_open k k' txs h e m s [] o = tt
 stays_open k k' txs h e m s (j ∷ js) o = (
   record {
@@ -36,11 +36,11 @@ stays_open k k' txs h e m s (j ∷ js) o = (
   stays_open k k' txs h e m s js o.1,
 )
 
-jobs_after : (k k' : Kept) (txs : List Transaction) (h : List Event) (e : Event) → k'.meta ≡ k.meta → (k'.jobs ≡ []) ⊎ ((k'.jobs ≡ k.jobs) × (k'.subscriptions ≡ k.subscriptions)) → AllByRecursion (IsOpen k txs h) k.jobs → AllByRecursion (IsOpen k' txs (h ++ e ∷ [])) k'.jobs
+jobs_after : (k k' : Kept) (txs : List (List TxChange)) (h : List Event) (e : Event) → k'.meta ≡ k.meta → (k'.jobs ≡ []) ⊎ ((k'.jobs ≡ k.jobs) × (k'.subscriptions ≡ k.subscriptions)) → AllByRecursion (IsOpen k txs h) k.jobs → AllByRecursion (IsOpen k' txs (h ++ e ∷ [])) k'.jobs
 jobs_after k k' txs h e m (inl none) o = subst (AllByRecursion (IsOpen k' txs (h ++ e ∷ []))) (sym none) tt
 jobs_after k k' txs h e m (inr same) o = subst (AllByRecursion (IsOpen k' txs (h ++ e ∷ []))) (sym same.0) (stays_open k k' txs h e m same.1 k.jobs o)
 
-pub no_taking : (meta : Meta) (h : List Event) (e : Event) (reply : Reply) → (happens meta (run meta h) e).reply ≡ reply → ((s : State) → taking_of s reply ≡ []) → takings meta (h ++ e ∷ []) ≡ takings meta h
+pub no_taking : (meta : Metadata) (h : List Event) (e : Event) (reply : Reply) → (happens meta (run meta h) e).reply ≡ reply → ((s : State) → taking_of s reply ≡ []) → takings meta (h ++ e ∷ []) ≡ takings meta h
 no_taking meta h e reply is none =
     takings-push meta h e ∙ ap (λ (ts : List Taking). takings meta h ++ ts) (ap (taking_of (run meta h)) is ∙ none (run meta h)) ∙ append-nil (takings meta h)
 
@@ -64,12 +64,12 @@ happened k k' e reply queued h st to built step =
       step = whole ∙ ap (λ (s : State). record { state = s; reply = reply; queued = queued; closed = [] }) (sym ran);
     }
 
-pub does : (k k' : Kept) (e : Event) (reply : Reply) (queued : List Queued) → StepsTo k k' e reply queued → ((txs : List Transaction) → is_built k.meta (state_of k txs) e ≡ true) → ((txs : List Transaction) → happens k.meta (state_of k txs) e ≡ record { state = state_of k' txs; reply = reply; queued = queued; closed = [] }) → Does k k' e reply queued
+pub does : (k k' : Kept) (e : Event) (reply : Reply) (queued : List Queued) → StepsTo k k' e reply queued → ((txs : List (List TxChange)) → is_built k.meta (state_of k txs) e ≡ true) → ((txs : List (List TxChange)) → happens k.meta (state_of k txs) e ≡ record { state = state_of k' txs; reply = reply; queued = queued; closed = [] }) → Does k k' e reply queued
 does k k' e reply queued to built step = record {
   meta = to.meta;
   events = to.events;
   happened = λ h st. happened k k' e reply queued h st to (built st.transactions) (step st.transactions);
 }
 
-pub not_built : (k : Kept) (e : Event) → ((txs : List Transaction) → is_built k.meta (state_of k txs) e ≡ false) → (h : List Event) → StandsFor k h → is_built k.meta (run k.meta h) e ≡ false
+pub not_built : (k : Kept) (e : Event) → ((txs : List (List TxChange)) → is_built k.meta (state_of k txs) e ≡ false) → (h : List Event) → StandsFor k h → is_built k.meta (run k.meta h) e ≡ false
 not_built k e f h st = ap (λ (s : State). is_built k.meta s e) st.state ∙ f st.transactions

@@ -6,4 +6,3 @@ pub mod Plans
 pub mod Reading
 pub mod Seen
 pub mod Parts
-pub mod Inserts

@@ -76,6 +76,11 @@ abbrev pub queued_with : Option (List ℕ) → Option Connection → List state.
 queued_with None connection = []
 queued_with (Some text) connection = queued_on text connection
 
+-- this is the number of the connection
+abbrev pub is_known : ℕ → Option Connection → Bool
+is_known number None = false
+is_known number (Some c) = c.number == number
+
 abbrev pub is_fresh : ℕ → Option Connection → Bool
 is_fresh number None = false
 is_fresh number (Some c) = c.number == number && not c.acknowledged

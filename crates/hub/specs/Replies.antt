@@ -1,13 +1,13 @@
 -- What the replies of a hub's calls say. This project's own.
-use Rattle.std.specs.Prelude.{◌≡◌, ℕ, ◌+◌, ◌<◌, false, Option, Some, None, List, [], ◌∷◌, ◌++◌, length, map}
-use Rattle.model.specs.State.{Event, Receive, Commit, Take, Publish, Did, Committed, Nobody, Taken, NotOpen, Published}
-use Rattle.model.specs.Rows.{Transaction}
+use Rattle.std.specs.Prelude.{◌≡◌, ℕ, ◌+◌, ◌<◌, true, false, Option, Some, None, List, [], ◌∷◌, ◌++◌, length, map}
+use Rattle.model.specs.State.{Event, Receive, Commit, Take, Publish, ConnectionKnown, ConnectionUnknown, Did, Committed, Declined, Nobody, Taken, NotOpen, Published}
+use Rattle.data_model.specs.declared.transaction.TxChange.{TxChange}
 use Rattle.model.specs.Messages.{Message}
 use Rattle.model.specs.Run.{run}
-use Rattle.model.specs.Built.{is_built}
+use Rattle.model.specs.Built.{is_built, knows}
 use Rattle.model.specs.Shown.{queued_of}
 use Rattle.hub.specs.State.{Kept}
-use Rattle.hub.specs.Jobs.{job_of, JobOf, AnswersOf}
+use Rattle.hub.specs.Jobs.{job_of, Fits, JobOf, AnswersOf}
 use Rattle.hub.specs.Stands.{StandsFor, Happened, Does}
 use Rattle.hub.specs.declared.reply.ConnReply.{ConnReply}
 use Rattle.hub.specs.declared.reply.ConnReply.TheVariants as conn
@@ -22,24 +22,37 @@ use Rattle.hub.specs.declared.job.Answers.{Answers}
 abbrev pub NotBuilt : Kept → Event → Type 0
 NotBuilt k e = (h : List Event) → StandsFor k h → is_built k.meta (run k.meta h) e ≡ false
 
--- the event was done, or it isn't built yet and nothing has changed
+-- the connection is known after any history that the hub stands for
+abbrev pub Knows : Kept → ℕ → Type 0
+Knows k c = (h : List Event) → StandsFor k h → knows (run k.meta h) c ≡ true
+
+-- the event was done or answered, or it isn't built yet and nothing has changed
 abbrev pub ConnAnswers : Kept → Kept → Event → ConnReply → Type 0
 ConnAnswers k k' e (conn.Did effect) = Does k k' e Did (map queued_of effect.queued)
+ConnAnswers k k' e conn.ConnKnown = Does k k' e ConnectionKnown []
+ConnAnswers k k' e conn.ConnUnknown = Does k k' e ConnectionUnknown []
 ConnAnswers k k' e conn.Unbuilt = (k' ≡ k) × NotBuilt k e
 
--- the same of a text: one that isn't read so far isn't built
+-- The same of a text. One that isn't read so far isn't built on a known connection; on one that isn't known the answer
+-- is the same whatever its message is.
+abbrev pub UnreadAnswers : Kept → Kept → ℕ → ConnReply → Type 0
+UnreadAnswers k k' c (conn.Did effect) = ⊥
+UnreadAnswers k k' c conn.ConnKnown = ⊥
+UnreadAnswers k k' c conn.ConnUnknown = (message : Message) → Does k k' (Receive c message) ConnectionUnknown []
+UnreadAnswers k k' c conn.Unbuilt = (k' ≡ k) × Knows k c
+
 abbrev pub ReceiveAnswers : Kept → Kept → ℕ → Option Message → ConnReply → Type 0
 ReceiveAnswers k k' c (Some message) reply = ConnAnswers k k' (Receive c message) reply
-ReceiveAnswers k k' c None reply = (k' ≡ k) × (reply ≡ conn.Unbuilt)
+ReceiveAnswers k k' c None reply = UnreadAnswers k k' c reply
 
-abbrev pub CommitAnswers : Kept → Kept → Transaction → CommitReply → Type 0
+abbrev pub CommitAnswers : Kept → Kept → List TxChange → CommitReply → Type 0
 CommitAnswers k k' tx (commit.Committed version) = Does k k' (Commit tx) (Committed version) []
-CommitAnswers k k' tx commit.Unbuilt = (k' ≡ k) × NotBuilt k (Commit tx)
+CommitAnswers k k' tx (commit.Refused fault) = Does k k' (Commit tx) (Declined fault) []
 
--- A job of the next number was taken, and fewer are due; or nobody was due.
+-- A job of the next number was taken, whose plan reads a table that is there, and fewer are due; or nobody was due.
 abbrev pub TakeAnswers : Kept → Kept → Option Job → Type 0
 TakeAnswers k k' (Some job) =
-    Does k k' Take (Taken (job_of job)) [] × ((h : List Event) → StandsFor k h → JobOf k.meta job (h ++ Take ∷ [])) × (k'.taken ≡ job.number) × (length k'.due < length k.due)
+    Does k k' Take (Taken (job_of job)) [] × ((h : List Event) → StandsFor k h → JobOf k.meta job (h ++ Take ∷ [])) × Fits job × (k'.taken ≡ job.number) × (length k'.due < length k.due)
 TakeAnswers k k' None = Does k k' Take Nobody [] × (k.due ≡ [])
 
 -- The job wasn't open; or it was, and where the answers are those of a job that was taken, they are published.

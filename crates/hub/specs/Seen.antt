@@ -1,10 +1,9 @@
 -- What the fields of a hub mean. This project's own.
-use Rattle.std.specs.Prelude.{◌≤◌, ℕ, Bool, true, false, Option, Some, None, List, [], ◌∷◌, map}
+use Rattle.std.specs.Prelude.{◌≡◌, ◌≤◌, ℕ, Bool, true, false, Option, Some, None, List, [], ◌∷◌, map}
 use Rattle.std.specs.Option.{option_to_list}
 use Rattle.scalar_val.specs.declared.val.Val.TheVariants as val
 use Rattle.model.specs.State as state
-use Rattle.model.specs.Shown.{meta_of}
-use Rattle.model.specs.declared.meta.Meta.{Meta}
+use Rattle.role_model.specs.declared.metadata.Metadata.{Metadata}
 use Rattle.hub.specs.State.{Kept}
 use Rattle.hub.specs.Plans.{administrator, query_of, IsPlan}
 use Rattle.hub.specs.declared.parts.Connection.{Connection}
@@ -61,8 +60,8 @@ jobs_of (Some c) = jobs_by c.subscription
 
 abbrev pub seen : Inside → Kept
 seen a = record {
-  meta = meta_of a.meta;
-  database = a.snapshot;
+  meta = a.meta;
+  database = a.snapshot.tables;
   version = a.version;
   connections = map connection_of (option_to_list a.connection);
   subscriptions = subscriptions_of a.connection;
@@ -72,16 +71,18 @@ seen a = record {
   events = a.events;
 }
 
-abbrev pub PlannedBy : Meta → Option Subscription → Type 0
+abbrev pub PlannedBy : Metadata → Option Subscription → Type 0
 PlannedBy meta None = Unit {0}
 PlannedBy meta (Some sub) = IsPlan meta sub.plan
 
-abbrev pub Planned : Meta → Option Connection → Type 0
+abbrev pub Planned : Metadata → Option Connection → Type 0
 Planned meta None = Unit {0}
 Planned meta (Some c) = PlannedBy meta c.subscription
 
--- counts don't pass that of the events, and a subscription's plan is one of the metadata
+-- The snapshot is over the metadata's tables, counts don't pass that of the events, and a subscription's plan is one
+-- of the metadata.
 pub record IsSound (a : Inside) : Type 0 where
+  pub catalog : a.snapshot.catalog ≡ a.meta.catalog
   pub version : a.version ≤ a.events
   pub taken : a.taken ≤ a.events
   pub plan : Planned a.meta a.connection

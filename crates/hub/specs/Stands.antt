@@ -1,7 +1,8 @@
 -- Which histories a hub stands for, and what it says of an event. This project's own.
 use Rattle.std.specs.Prelude.{◌≡◌, ◌-◌, ◌+◌, ◌≤◌, true, Some, List, [], ◌∷◌, ◌++◌, length, slice_get}
 use Rattle.std.specs.List.{AllByRecursion}
-use Rattle.model.specs.Rows.{Transaction, snapshot}
+use Rattle.data_model.specs.declared.transaction.TxChange.{TxChange}
+use Rattle.data_model.specs.Transactions.{snapshot}
 use Rattle.model.specs.State.{Event, Reply, Queued, Job}
 use Rattle.model.specs.Publication.{database_of}
 use Rattle.model.specs.Run.{happens, run}
@@ -10,20 +11,20 @@ use Rattle.hub.specs.State.{Kept, state_of}
 use Rattle.hub.specs.Jobs.{Taking, takings}
 
 -- An open job is that of a take. Its database is still that of its version, and the subscriptions are still those of then.
-pub record IsOpen (k : Kept) (txs : List Transaction) (h : List Event) (job : Job) : Type 0 where
+pub record IsOpen (k : Kept) (txs : List (List TxChange)) (h : List Event) (job : Job) : Type 0 where
   pub taking : Taking
   pub taken : slice_get (takings k.meta h) (job.number - 1) ≡ Some taking
   pub job_is : taking.job ≡ job
   pub subscriptions : k.subscriptions ≡ taking.state.subscriptions
-  pub database : snapshot k.meta.tables txs job.version ≡ database_of k.meta taking.state job
+  pub database : snapshot k.meta.catalog txs job.version ≡ database_of k.meta taking.state job
   pub version : job.version ≤ length txs
 
 -- What is kept is what the machine has after these events, with some transactions.
 pub record StandsFor (k : Kept) (h : List Event) : Type 0 where
-  pub transactions : List Transaction
+  pub transactions : List (List TxChange)
   pub state : run k.meta h ≡ state_of k transactions
   pub version : k.version ≡ length transactions
-  pub database : k.database ≡ snapshot k.meta.tables transactions k.version
+  pub database : k.database ≡ snapshot k.meta.catalog transactions k.version
   pub events : k.events ≡ length h
   pub taken : k.taken ≡ length (takings k.meta h)
   pub jobs : AllByRecursion (IsOpen k transactions h) k.jobs

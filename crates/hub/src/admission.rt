@@ -1,29 +1,16 @@
-ghost use Rattle.std.specs.Prelude.{◌≡◌, ◌-◌, None, length, take, drop, map, IfOk};
-ghost use Rattle.std.specs.List.{list_any};
-ghost use Rattle.model.specs.Values.{same_text};
-ghost use Rattle.model.specs.Queries.{place_of};
-ghost use Rattle.model.specs.Admission.{admits, are_distinct, query_text};
-ghost use Rattle.model.specs.Shown.{meta_of};
-ghost use Rattle.hub.specs.Plans.{administrator, AreFields, IsPlanOf};
+ghost use Rattle.std.specs.Prelude.{◌≡◌, ◌-◌, ◌&&◌, None, length, take, drop, map, IfOk};
+ghost use Rattle.std.specs.List.{list_any, list_all};
+ghost use Rattle.role_model.specs.Roles.{table_seen};
+ghost use Rattle.model.specs.Values.{same_text, is_lower, is_name};
+ghost use Rattle.model.specs.Admission.{admits, admits_columns, are_distinct, query_text};
+ghost use Rattle.hub.specs.Plans.{administrator, seen_by_all, AreFields, IsPlanOf};
 
 use crate::plan::{Field, FieldList, Plan};
-use crate::reading::{piece, pieces};
+use crate::reading::{is_lower, piece, pieces};
 use crate::texts::query_text;
-use model::Meta;
+use role_schema::{Meta, RoleView};
 use scalar_val::{List, NoMemory, Str};
 use std::alloc::Global;
-
-/// The place of a name, from 0.
-fn place_of(name: &str, columns: &[Str]) -> Option<usize>
-    ensures { result ≡ place_of name.now columns.now }
-{
-    for at in 0..columns.len() {
-        if name == columns[at].as_str() {
-            return Some(at);
-        }
-    }
-    None
-}
 
 fn is_among(name: &str, names: &[&str]) -> bool
     ensures { result ≡ list_any (same_text name.now) (map (λ n. n.now) names.now) }
@@ -47,13 +34,47 @@ fn are_distinct(names: &[&str]) -> bool
     true
 }
 
+fn are_lower(bytes: &[u8]) -> bool
+    ensures { result ≡ list_all is_lower bytes.now }
+{
+    for byte in bytes {
+        if !is_lower(*byte) {
+            return false;
+        }
+    }
+    true
+}
+
+/// Whether a name has 1 to 32 lower-case letters.
+fn is_name(name: &str) -> bool
+    ensures { result ≡ is_name name.now }
+{
+    0 < name.len() && name.len() <= 32 && are_lower(name.as_bytes())
+}
+
+fn are_names(names: &[&str]) -> bool
+    ensures { result ≡ list_all is_name (map (λ n. n.now) names.now) }
+{
+    for name in names {
+        if !is_name(name) {
+            return false;
+        }
+    }
+    true
+}
+
 /// The fields of these names, or `None` where one isn't that of a column.
-fn fields(alloc: Global, names: &[&str], columns: &[Str]) -> Result<Option<FieldList>, NoMemory>
-    ensures { IfOk result (λ fields. AreFields columns.now (map (λ n. n.now) names.now) fields) }
+fn fields(
+    alloc: Global,
+    view: &RoleView<'_>,
+    table: u32,
+    names: &[&str],
+) -> Result<Option<FieldList>, NoMemory>
+    ensures { IfOk result (λ fields. AreFields view.now table (map (λ n. n.now) names.now) fields) }
 {
     let mut fields = List::new(alloc);
     for name in names {
-        let Some(place) = place_of(name, columns) else {
+        let Some(place) = view.column(table, name) else {
             return Ok(None);
         };
         let name = Str::of(alloc, name)?;
@@ -73,22 +94,50 @@ fn selected<'a, 'b>(words: &'b [&'a str]) -> &'b [&'a str]
     if front.len() < 4 { &[] } else { &front[4..] }
 }
 
-fn is_same(a: &str, b: &str) -> bool
-    ensures { result ≡ same_text a.now b.now }
-{
-    a == b
-}
-
-fn is_query(alloc: Global, query: &str, table: &str, names: &[&str]) -> Result<bool, NoMemory>
+fn is_text(alloc: Global, query: &str, table: &str, names: &[&str]) -> Result<bool, NoMemory>
     ensures { IfOk result (λ b. b ≡ same_text query.now (query_text table.now (map (λ n. n.now) names.now))) }
 {
     let form = query_text(alloc, table, names)?;
     Ok(query.as_bytes() == form.as_slice())
 }
 
+/// Whether a query has the one form that is read so far, with this table and these columns.
+fn is_query(alloc: Global, query: &str, table: &str, names: &[&str]) -> Result<bool, NoMemory>
+    ensures { IfOk result (λ b. b ≡ (same_text query.now (query_text table.now (map (λ n. n.now) names.now)) && (is_name table.now && list_all is_name (map (λ n. n.now) names.now)))) }
+{
+    Ok(is_text(alloc, query, table, names)? && is_name(table) && are_names(names))
+}
+
+/// The plan of a query for these columns of a table, or `None` where it isn't admitted.
+fn plan_columns(
+    alloc: Global,
+    meta: &Meta,
+    name: &str,
+    names: &[&str],
+) -> Result<Option<Plan>, NoMemory>
+    ensures { IfOk result (λ plan. IsPlanOf meta.now (admits_columns (seen_by_all meta.now) administrator name.now (map (λ n. n.now) names.now) (table_seen (seen_by_all meta.now) name.now)) plan) }
+{
+    let view = meta.view("admin");
+    let Some(table) = view.table(name) else {
+        return Ok(None);
+    };
+    if !are_distinct(names) {
+        return Ok(None);
+    }
+    let Some(fields) = fields(alloc, &view, table, names)? else {
+        return Ok(None);
+    };
+    let name = Str::of(alloc, name)?;
+    Ok(Some(Plan {
+        table,
+        name,
+        fields,
+    }))
+}
+
 /// The plan of a query that is admitted, or `None` where it isn't one that is read so far.
 pub fn admit(alloc: Global, meta: &Meta, query: &str) -> Result<Option<Plan>, NoMemory>
-    ensures { IfOk result (λ plan. IsPlanOf meta.now (admits (meta_of meta.now) administrator (record { query = query.now; operation = None })) plan) }
+    ensures { IfOk result (λ plan. IsPlanOf meta.now (admits meta.now administrator (record { query = query.now; operation = None })) plan) }
 {
     let words = pieces(alloc, query, ' ')?;
     let table = piece(&words, 2);
@@ -96,15 +145,5 @@ pub fn admit(alloc: Global, meta: &Meta, query: &str) -> Result<Option<Plan>, No
     if !is_query(alloc, query, table, names)? {
         return Ok(None);
     }
-    if !is_same(table, meta.table.as_str()) {
-        return Ok(None);
-    }
-    let Some(fields) = fields(alloc, names, meta.columns.as_slice())? else {
-        return Ok(None);
-    };
-    if !are_distinct(names) {
-        return Ok(None);
-    }
-    let table = Str::of(alloc, meta.table.as_str())?;
-    Ok(Some(Plan { table, fields }))
+    plan_columns(alloc, meta, table, names)
 }

@@ -1,29 +1,32 @@
-ghost use Rattle.std.specs.Prelude.{◌≡◌, ◌+◌, ◌^◌, ◌<◌, ◌≤◌, [], IfOk, OnOk, IfErr, OnErr, length};
-ghost use Rattle.model.specs.State.{Connect, Receive, Tick, Ticked};
+ghost use Rattle.std.specs.Prelude.{◌≡◌, ◌+◌, ◌^◌, ◌<◌, ◌≤◌, true, None, [], List, IfOk, OnOk, IfErr, OnErr, length};
+ghost use Rattle.model.specs.State.{Event, Connect, Receive, Tick, Ticked};
 ghost use Rattle.model.specs.Messages.{Init, Subscribe};
 ghost use Rattle.model.specs.Forms.{read_message};
-ghost use Rattle.model.specs.Shown.{meta_of, transaction_of};
+ghost use Rattle.model.specs.Built.{knows};
+ghost use Rattle.model.specs.Run.{run};
+ghost use Rattle.tx_apply.specs.Cost.{cost};
+ghost use Rattle.hub.specs.State.{knows_in};
 ghost use Rattle.hub.specs.Stands.{StandsFor, Does};
 ghost use Rattle.hub.specs.Replies.{ConnAnswers, ReceiveAnswers, CommitAnswers, TakeAnswers, PublishAnswers};
 
 use crate::admission::admit;
-use crate::apply::apply;
 use crate::changes::{
-    acknowledge, add_subscription, due_plan, is_free, is_fresh, is_idle, is_open, new_subscription,
-    queue_text, remember, stand, tell,
+    acknowledge, add_subscription, due_plan, is_free, is_fresh, is_idle, is_known, is_open,
+    new_subscription, queue_text, remember, stand, tell,
 };
 use crate::job::{Answers, Job, one_member};
 use crate::message::Message;
 use crate::parts::{Connection, Standing};
 use crate::reading::read_message;
 use crate::reply::{CommitReply, ConnReply, Effect, PublishReply};
-use crate::rows::Snapshot;
 use crate::texts::ack_text;
-use model::{Meta, Tx};
+use role_schema::Meta;
+use row_store::Snapshot;
 use scalar_val::{List, NoMemory, Steps};
 use std::alloc::Global;
 use std::marker::Model;
 use std::sync::ledger::Ledger;
+use tx_apply::{ApplyFault, Tx, apply};
 
 /// The runtime's state. Contracts see it as what it keeps of the machine's state.
 #[derive(Drop)]
@@ -41,6 +44,11 @@ impl Model for Hub {
 
     ghost Value = { Kept };
 
+    ghost use Rattle.role_model.specs.contracts.metadata.Metadata as row_of;
+    ghost use Rattle.std.specs.Coded.{codes};
+
+    ghost coded = { Prim.hlevel (codes, row_of.the_row.coded) };
+
     ghost use Rattle.hub.specs.Seen.{seen, IsSound};
 
     ghost view = { seen };
@@ -51,11 +59,11 @@ impl Model for Hub {
 impl Hub {
     /// A hub to which nothing has happened.
     pub fn new(alloc: Global, meta: Meta) -> Result<Hub, NoMemory>
-        ensures meta { IfOk result (λ hub. hub.meta ≡ meta_of meta) }
+        ensures meta { IfOk result (λ hub. hub.meta ≡ meta) }
         ensures stands { IfOk result (λ hub. StandsFor hub []) }
         ensures events { IfOk result (λ hub. hub.events ≡ 0) }
     {
-        let snapshot = Snapshot::of(alloc, List::new(alloc))?;
+        let snapshot = Snapshot::new(alloc, meta.catalog())?;
         Ok(Hub {
             meta,
             snapshot,
@@ -68,7 +76,7 @@ impl Hub {
 
     /// The metadata, which no event changes.
     pub fn meta(&self) -> &Meta
-        ensures { meta_of result.now ≡ self.now.meta }
+        ensures { result.now ≡ self.now.meta }
     {
         &self.meta
     }
@@ -80,13 +88,25 @@ impl Hub {
         self.events
     }
 
-    /// A connection opens. So far it is built where none was opened before.
+    /// Whether a connection is known: it was opened.
+    pub fn knows(&self, conn: u32) -> bool
+        ensures kept { result ≡ knows_in self.now conn }
+        ensures machine { (h : List Event) → StandsFor self.now h → result ≡ knows (run self.now.meta h) conn }
+    {
+        is_known(&self.connection, conn)
+    }
+
+    /// A connection opens. `ConnKnown` exactly where it is known. So far the first one is built.
     pub fn connect(&mut self, alloc: Global, conn: u32) -> Result<ConnReply, NoMemory>
         requires { self.old.events < 2 ^ 62 }
         ensures reply { IfOk result (λ reply. ConnAnswers self.old self.new (Connect conn) reply) }
         ensures err { OnErr result (self.new ≡ self.old) }
         ensures count { self.new.events ≤ self.old.events + 1 }
     {
+        if self.knows(conn) {
+            self.events += 1;
+            return Ok(ConnReply::ConnKnown);
+        }
         if self.connection.is_some() {
             return Ok(ConnReply::Unbuilt);
         }
@@ -102,14 +122,19 @@ impl Hub {
         }))
     }
 
-    /// A text comes on a connection: a message of the `graphql-transport-ws` protocol. So far a `connection_init` on the
-    /// fresh connection is built, and a `subscribe` on the acknowledged one where nothing was subscribed before.
+    /// A text comes on a connection: a message of the `graphql-transport-ws` protocol. `ConnUnknown` exactly where the
+    /// connection isn't known. So far a `connection_init` on the fresh connection is built, where no secret is configured,
+    /// and a `subscribe` on the acknowledged one where nothing was subscribed before.
     pub fn recv(&mut self, alloc: Global, conn: u32, text: &str) -> Result<ConnReply, NoMemory>
         requires { self.old.events < 2 ^ 62 }
         ensures reply { IfOk result (λ reply. ReceiveAnswers self.old self.new conn (read_message text.now) reply) }
         ensures err { OnErr result (self.new ≡ self.old) }
         ensures count { self.new.events ≤ self.old.events + 1 }
     {
+        if !self.knows(conn) {
+            self.events += 1;
+            return Ok(ConnReply::ConnUnknown);
+        }
         match read_message(alloc, text)? {
             None => Ok(ConnReply::Unbuilt),
             Some(Message::Init) => self.init(alloc, conn),
@@ -118,12 +143,16 @@ impl Hub {
     }
 
     fn init(&mut self, alloc: Global, conn: u32) -> Result<ConnReply, NoMemory>
-        requires { self.old.events < 2 ^ 62 }
-        ensures reply { IfOk result (λ reply. ConnAnswers self.old self.new (Receive conn (Init [])) reply) }
+        requires room { self.old.events < 2 ^ 62 }
+        requires known { knows_in self.old conn ≡ true }
+        ensures reply { IfOk result (λ reply. ConnAnswers self.old self.new (Receive conn (Init None)) reply) }
         ensures err { OnErr result (self.new ≡ self.old) }
         ensures count { self.new.events ≤ self.old.events + 1 }
     {
         if !is_fresh(&self.connection, conn) {
+            return Ok(ConnReply::Unbuilt);
+        }
+        if self.meta.secret().is_some() {
             return Ok(ConnReply::Unbuilt);
         }
         let queued = queue_text(alloc, &mut self.connection, ack_text(alloc)?)?;
@@ -139,7 +168,8 @@ impl Hub {
         id: &str,
         query: &str,
     ) -> Result<ConnReply, NoMemory>
-        requires { self.old.events < 2 ^ 62 }
+        requires room { self.old.events < 2 ^ 62 }
+        requires known { knows_in self.old conn ≡ true }
         ensures reply { IfOk result (λ reply. ConnAnswers self.old self.new (Receive conn (Subscribe id.now (record { query = query.now; operation = None }))) reply) }
         ensures err { OnErr result (self.new ≡ self.old) }
         ensures count { self.new.events ≤ self.old.events + 1 }
@@ -158,7 +188,8 @@ impl Hub {
         }))
     }
 
-    /// A transaction: all of its changes, or none. So far one that is accepted is built.
+    /// A transaction: all of its changes, or none. A refused one changes nothing. It counts at most a step for each row of
+    /// a change's table, and one, for each change.
     pub fn commit<L: Ledger>(
         &mut self,
         alloc: Global,
@@ -166,18 +197,24 @@ impl Hub {
         steps: &mut Steps<L>,
     ) -> Result<CommitReply, NoMemory>
         requires { self.old.events < 2 ^ 62 }
-        ensures reply { IfOk result (λ reply. CommitAnswers self.old self.new (transaction_of tx.now) reply) }
+        ensures reply { IfOk result (λ reply. CommitAnswers self.old self.new tx.now reply) }
         ensures err { OnErr result (self.new ≡ self.old) }
         ensures count { self.new.events ≤ self.old.events + 1 }
+        ensures steps { steps.new ≤ steps.old + cost self.old.meta.catalog self.old.database tx.now }
     {
-        let key = self.meta.key as usize;
-        let Some(rows) = apply(alloc, key, tx.as_slice(), self.snapshot.rows(), steps)? else {
-            return Ok(CommitReply::Unbuilt);
-        };
-        self.snapshot = Snapshot::of(alloc, rows)?;
-        self.version += 1;
-        self.events += 1;
-        Ok(CommitReply::Committed(self.version))
+        match apply(alloc, self.meta.catalog(), &self.snapshot, tx, steps) {
+            Ok(after) => {
+                self.snapshot = after;
+                self.version += 1;
+                self.events += 1;
+                Ok(CommitReply::Committed(self.version))
+            }
+            Err(ApplyFault::Refused(fault)) => {
+                self.events += 1;
+                Ok(CommitReply::Refused(fault))
+            }
+            Err(ApplyFault::NoMemory) => Err(NoMemory),
+        }
     }
 
     /// Makes due each live subscription whose cohort has no member in an open job, and tells how many these are.
@@ -207,7 +244,8 @@ impl Hub {
             self.events += 1;
             return Ok(None);
         };
-        let snapshot = self.snapshot.share()?;
+        let _at_least_one = self.meta.batch_size();
+        let snapshot = self.snapshot.share(alloc)?;
         let members = one_member(alloc)?;
         let version = self.version;
         self.taken += 1;

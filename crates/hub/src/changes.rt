@@ -3,7 +3,7 @@ ghost use Rattle.std.specs.Option.{option_map};
 ghost use Rattle.model.specs.Shown.{queued_of};
 ghost use Rattle.hub.specs.declared.plan.Plan.{Plan};
 ghost use Rattle.model.specs.Publication.{is_new};
-ghost use Rattle.hub.specs.Parts.{by_subscription, changed, stands_as, is_idle, plan_if, has_number, first_text, next_of, remembers, remembered, queues, queued_on, next_for, told_with, queued_with, is_fresh, is_free, acknowledges, subscribes};
+ghost use Rattle.hub.specs.Parts.{by_subscription, changed, stands_as, is_idle, plan_if, has_number, first_text, next_of, remembers, remembered, queues, queued_on, next_for, told_with, queued_with, is_known, is_fresh, is_free, acknowledges, subscribes};
 
 use crate::job::Outcome;
 use crate::parts::{Connection, Standing, Subscription};
@@ -213,6 +213,16 @@ pub fn tell(
     match next_of(alloc, connection, outcomes)? {
         Some(text) => queue_text(alloc, connection, text),
         None => Ok(List::new(alloc)),
+    }
+}
+
+/// Whether this is the number of the connection.
+pub fn is_known(connection: &Option<Connection>, number: u32) -> bool
+    ensures { result ≡ is_known number connection.now }
+{
+    match connection {
+        Some(connection) => connection.number == number,
+        None => false,
     }
 }
 

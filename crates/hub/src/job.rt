@@ -1,7 +1,7 @@
 ghost use Rattle.std.specs.Prelude.{◌≡◌, [], ◌∷◌, IfOk};
 
 use crate::plan::SharedPlan;
-use crate::rows::Snapshot;
+use row_store::Snapshot;
 use scalar_val::{Bytes, List, NoMemory, Val};
 use std::alloc::Global;
 

@@ -1,9 +1,8 @@
 //! The hub: the one place where the runtime's state changes, one event at a time. So far it has one connection and one
-//! subscription on a table of columns of kind `int`; what isn't built yet is answered `Unbuilt` and is no event.
+//! subscription of an administrator; what isn't built yet is answered `Unbuilt` and is no event.
 #![tactic(auto)]
 
 mod admission;
-mod apply;
 mod center;
 mod changes;
 mod evaluation;
@@ -14,9 +13,6 @@ mod parts;
 mod plan;
 mod reading;
 mod reply;
-mod rows;
-#[cfg(test)]
-mod tests;
 mod texts;
 
 pub use center::Hub;
@@ -25,4 +21,6 @@ pub use job::{Answers, Job, Member, MemberList, Outcome, OutcomeList};
 pub use laws::job_laws;
 pub use plan::{Field, FieldList, Plan, SharedPlan};
 pub use reply::{CommitReply, ConnReply, Effect, PublishReply};
-pub use rows::{Row, RowList, Snapshot};
+pub use role_schema::Meta;
+pub use row_store::Snapshot;
+pub use tx_apply::{Reason, Tx, TxFault};

@@ -9,7 +9,7 @@ use std::sync::Arc;
 #[derive(Drop)]
 pub struct Field {
     pub name: Str,
-    pub place: usize,
+    pub place: u32,
 }
 
 pub type FieldList = List<Field>;
@@ -17,8 +17,10 @@ pub type FieldList = List<Field>;
 /// What a subscription asks for: columns of one table, in the order of its selection.
 #[derive(Drop)]
 pub struct Plan {
+    /// The table's place in the metadata, from 0.
+    pub table: u32,
     /// The table's name.
-    pub table: Str,
+    pub name: Str,
     pub fields: FieldList,
 }
 

@@ -1,8 +1,8 @@
 ghost use Rattle.std.specs.Prelude.{◌≡◌, ◌==◌, ◌<◌, map, IfOk};
 ghost use Rattle.std.specs.Option.{option_map};
 ghost use Rattle.std.specs.List.{list_all};
-ghost use Rattle.model.specs.Values.{same_text, pieces};
-ghost use Rattle.model.specs.Forms.{piece, subscribe_text, is_lower, is_alphanumeric, is_id, read_message};
+ghost use Rattle.model.specs.Values.{same_text, pieces, is_lower};
+ghost use Rattle.model.specs.Forms.{piece, subscribe_text, is_alphanumeric, is_id, read_message};
 ghost use Rattle.hub.specs.Reading.{message_of};
 
 use crate::message::Message;
@@ -35,7 +35,8 @@ pub fn piece<'a>(parts: &[&'a str], at: usize) -> &'a str
     }
 }
 
-fn is_lower(byte: u8) -> bool
+/// Whether a byte is a lower-case letter.
+pub fn is_lower(byte: u8) -> bool
     ensures { result ≡ is_lower byte }
 {
     97 <= byte && byte <= 122

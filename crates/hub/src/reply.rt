@@ -1,4 +1,5 @@
 use model::QueuedList;
+use tx_apply::TxFault;
 
 /// What an event did beside its reply.
 #[derive(Drop)]
@@ -12,6 +13,10 @@ pub struct Effect {
 pub enum ConnReply {
     /// The event was done.
     Did(Effect),
+    /// The connection that is to be opened is known already; nothing has changed.
+    ConnKnown,
+    /// The connection isn't known; nothing has changed.
+    ConnUnknown,
     /// The event isn't built yet; nothing has changed.
     Unbuilt,
 }
@@ -21,8 +26,8 @@ pub enum ConnReply {
 pub enum CommitReply {
     /// It was accepted, and this is the version after it: the number of transactions accepted so far.
     Committed(u64),
-    /// It isn't built yet; nothing has changed.
-    Unbuilt,
+    /// It was refused, and nothing has changed: the first change at fault, with its reason.
+    Refused(TxFault),
 }
 
 /// The reply to the publication of a job's answers.

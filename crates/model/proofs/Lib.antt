@@ -14,3 +14,5 @@ pub mod Publishing
 pub mod Taking
 pub mod SoundRuns
 pub mod Order
+pub mod Filters
+pub mod WorkedReaders

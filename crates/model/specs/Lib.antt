@@ -13,3 +13,5 @@ pub mod Transcript
 pub mod Script
 pub mod Shown
 pub mod Laws
+pub mod Worked
+pub mod WorkedEvents

@@ -1,0 +1,9 @@
+//! Metadata as it is read from its text, and what a role sees of the tables.
+#![tactic(auto)]
+
+mod meta;
+mod view;
+
+pub use meta::{Meta, MetaReadFault};
+pub use role_model::{LinkDef, MetaFault};
+pub use view::RoleView;
