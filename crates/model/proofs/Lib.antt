@@ -16,3 +16,4 @@ pub mod SoundRuns
 pub mod Order
 pub mod Filters
 pub mod WorkedReaders
+pub mod OwnResults

@@ -29,16 +29,23 @@ use Rattle.model.proofs.Apart.{IsKnown, HaveOtherNumbers, Sound, cohort_own}
 use Rattle.model.proofs.Publishing.{Publishing, members_publishing, left_job, others_free}
 use Rattle.model.proofs.SoundRuns.{event_sound, run_sound}
 
--- How jobs go on: each is an earlier one, or of the version now.
-record GoesOn (s t : State) : Type 0 where
-  jobs : (job : Job) → Among job t.jobs → Among job s.jobs ⊎ (version_of s ≤ job.version)
-  later : version_of s ≤ version_of t
+-- How jobs and transactions go on: each job is an earlier one or of the version now, and transactions are added alone.
+pub record GoesOn (s t : State) : Type 0 where
+  pub jobs : (job : Job) → Among job t.jobs → Among job s.jobs ⊎ (version_of s ≤ job.version)
+  pub more : List (List TxChange)
+  pub grows : t.transactions ≡ s.transactions ++ more
 
-goes_on_same : (s t : State) → t.jobs ≡ s.jobs → version_of s ≤ version_of t → GoesOn s t
-goes_on_same s t e v = record { jobs = λ job a. inl (subst (λ (l : List Job). Among job l) e a); later = v }
+later_of : (s t : State) → GoesOn s t → version_of s ≤ version_of t
+later_of s t g =
+    let whole = ap (λ (l : List (List TxChange)). length l) g.grows in
+    let both = length-append s.transactions g.more in
+    omega (arith, whole, both)
+
+goes_on_same : (s t : State) (more : List (List TxChange)) → t.jobs ≡ s.jobs → t.transactions ≡ s.transactions ++ more → GoesOn s t
+goes_on_same s t more e v = record { jobs = λ job a. inl (subst (λ (l : List Job). Among job l) e a); more = more; grows = v }
 
 unchanged : (s t : State) → t.jobs ≡ s.jobs → t.transactions ≡ s.transactions → GoesOn s t
-unchanged s t e v = goes_on_same s t e (let same = ap (λ (l : List (List TxChange)). length l) v in omega (arith, same))
+unchanged s t e v = goes_on_same s t [] e (v ∙ sym (append-nil s.transactions))
 
 initialised_on : (number : ℕ) (s : State) (i : Identity) → GoesOn s (initialised number s i).state
 initialised_on number s (identity.Allowed session) = unchanged _ _ refl refl
@@ -88,7 +95,7 @@ on_known_on f s h (Some c) = h c
 on_known_on f s h None = unchanged s s refl refl
 
 commit_on : (tx : List TxChange) (s : State) (r : Result Database TxFault) → GoesOn s (commit tx s r).state
-commit_on tx s (Ok db) = goes_on_same _ _ refl (let longer = length-append s.transactions (tx ∷ []) in omega (arith, longer))
+commit_on tx s (Ok db) = goes_on_same _ _ (tx ∷ []) refl refl
 commit_on tx s (Err fault) = unchanged _ _ refl refl
 
 new_job : (s : State) (new job : Job) → new.version ≡ version_of s → Among job (s.jobs ++ new ∷ []) → Among job s.jobs ⊎ (version_of s ≤ job.version)
@@ -99,11 +106,11 @@ new_job s new job e a = elim (among_append job s.jobs (new ∷ []) a) [ inl b �
     at_now (inr b) = absurd b
 
 take_on : (meta : Metadata) (s : State) (o : Option Subscription) → GoesOn s (take_from meta s o).state
-take_on meta s (Some first) = record { jobs = λ job a. new_job s _ job refl a; later = omega arith }
+take_on meta s (Some first) = record { jobs = λ job a. new_job s _ job refl a; more = []; grows = sym (append-nil s.transactions) }
 take_on meta s None = unchanged _ _ refl refl
 
 abandon_on : (number : ℕ) (s : State) (o : Option Job) → GoesOn s (abandon number s o).state
-abandon_on number s (Some job) = record { jobs = λ other a. inl (left_job number s.jobs other a).0; later = omega arith }
+abandon_on number s (Some job) = record { jobs = λ other a. inl (left_job number s.jobs other a).0; more = []; grows = sym (append-nil s.transactions) }
 abandon_on number s None = unchanged _ _ refl refl
 
 -- the jobs that a publication leaves
@@ -111,17 +118,18 @@ published_left : (meta : Metadata) (number : ℕ) (s : State) (job other : Job) 
 published_left meta number s job other a =
     subst (λ (l : List Job). Among other (without_job number l)) (members_publishing meta (database_of meta s job) job job.members s (λ m b. b)).jobs a
 
-published_version : (meta : Metadata) (number : ℕ) (s : State) (job : Job) → version_of (publish meta number s (Some job)).state ≡ version_of s
-published_version meta number s job = (members_publishing meta (database_of meta s job) job job.members s (λ m b. b)).version
+published_transactions : (meta : Metadata) (number : ℕ) (s : State) (job : Job) → (publish meta number s (Some job)).state.transactions ≡ s.transactions
+published_transactions meta number s job = (members_publishing meta (database_of meta s job) job job.members s (λ m b. b)).transactions
 
 publish_on : (meta : Metadata) (number : ℕ) (s : State) (o : Option Job) → GoesOn s (publish meta number s o).state
 publish_on meta number s (Some job) = record {
   jobs = λ other a. inl (left_job number s.jobs other (published_left meta number s job other a)).0;
-  later = let same = published_version meta number s job in omega (arith, same);
+  more = [];
+  grows = published_transactions meta number s job ∙ sym (append-nil s.transactions);
 }
 publish_on meta number s None = unchanged _ _ refl refl
 
-event_on : (meta : Metadata) (s : State) (e : Event) → GoesOn s (happens meta s e).state
+pub event_on : (meta : Metadata) (s : State) (e : Event) → GoesOn s (happens meta s e).state
 event_on meta s (Connect c) = connect_on c s (connection_at c s)
 event_on meta s (Receive c m) = on_known_on _ s (λ known. receive_on meta c m s known.phase) (connection_at c s)
 event_on meta s (Binary c) = on_known_on _ s (λ known. receive_on meta c Bad s known.phase) (connection_at c s)
@@ -143,7 +151,7 @@ record IsLow (s : State) (number low : ℕ) : Type 0 where
 
 low_after : (s t : State) (number low : ℕ) → GoesOn s t → IsLow s number low → IsLow t number low
 low_after s t number low g w = record {
-  now = let now = w.now in let later = g.later in omega (arith, now, later);
+  now = let now = w.now in let later = later_of s t g in omega (arith, now, later);
   jobs = λ job a m. elim (g.jobs job a) [ inl b ↦ w.jobs job b m | inr v ↦ (let now = w.now in omega (arith, now, v)) ];
 }
 
@@ -161,25 +169,23 @@ versions_append number ts us =
     ∙ map-append (λ (t : Turn). t.version) (filter (is_turn_of number) ts) (filter (is_turn_of number) us)
 
 -- a turn is that of a member, at the job's version
-IsOfJob : Job → Turn → Type 0
+abbrev pub IsOfJob : Job → Turn → Type 0
 IsOfJob job t = (t.version ≡ job.version) × (is_member t.subscription.number job ≡ true)
 
 turn_when : (job : Job) (t u : Turn) (live : Bool) → IsOfJob job u → Among t (if live then u ∷ [] else []) → IsOfJob job t
-unfolding IsOfJob
 turn_when job t u true h (inl e) = subst (λ (x : Turn). IsOfJob job x) (sym e) h
 turn_when job t u true h (inr a) = absurd a
 turn_when job t u false h a = absurd a
 
 turn_is : (meta : Metadata) (db : Database) (job : Job) (m : Member) (s : State) (o : Option Subscription) → subscription_at m.subscription s.subscriptions ≡ o → Among m job.members →
     (t : Turn) → Among t (turn_of meta db job.version s o) → IsOfJob job t
-unfolding IsOfJob
 turn_is meta db job m s None at a t b = absurd b
 turn_is meta db job m s (Some sub) at a t b =
     let number = eqb-true sub.number m.subscription (found_among (is_subscription m.subscription) s.subscriptions sub at).1 in
     let member : is_member sub.number job ≡ true = among_any (λ (k : Member). k.subscription == sub.number) m job.members a (eq-eqb m.subscription sub.number (sym number)) in
     turn_when job t (record { version = job.version; subscription = sub; queued = (publish_member meta db s (Some sub)).queued }) sub.live (refl, member) b
 
-turns_are : (meta : Metadata) (db : Database) (job : Job) (ms : List Member) (s : State) → ((m : Member) → Among m ms → Among m job.members) → (t : Turn) → Among t (turns_in meta db job.version ms s) → IsOfJob job t
+pub turns_are : (meta : Metadata) (db : Database) (job : Job) (ms : List Member) (s : State) → ((m : Member) → Among m ms → Among m job.members) → (t : Turn) → Among t (turns_in meta db job.version ms s) → IsOfJob job t
 turns_are meta db job [] s h t a = absurd a
 turns_are meta db job (m ∷ ms) s h t a =
     let sub = subscription_at m.subscription s.subscriptions in
@@ -198,7 +204,6 @@ record Turned (s : State) (t : State) (number version : ℕ) : Type 0 where
 
 turned_by : (meta : Metadata) (j : ℕ) (s : State) (number version : ℕ) (o : Option Job) → Sound s → job_at j s.jobs ≡ o →
     Among version (map (λ (t : Turn). t.version) (filter (is_turn_of number) (turns_of_job meta s o))) → Turned s (publish meta j s o).state number version
-unfolding IsOfJob
 turned_by meta j s number version None w at a = absurd a
 turned_by meta j s number version (Some job) w at a =
     let r = among_map (λ (t : Turn). t.version) (filter (is_turn_of number) (turns_of_job meta s (Some job))) version a in
@@ -227,7 +232,7 @@ turned_low meta s e number version w t = record {
   now =
       let is = t.is in
       let low = w.versions t.job t.within in
-      let later = (event_on meta s e).later in
+      let later = later_of s (happens meta s e).state (event_on meta s e) in
       omega (arith, is, low, later);
   jobs = λ job a m. absurd (true≢false (sym m ∙ t.left job a));
 }

@@ -5,6 +5,7 @@ use Rattle.std.specs.List.{list_any}
 use Rattle.std.proofs.lemmas.Bool.{eqb-true, eq-eqb, eqb-false, true≢false, not-true, cases_Bool}
 use Rattle.scalar_val.specs.declared.val.Val.{Val}
 use Rattle.data_model.specs.Rows.{Database}
+use Rattle.data_model.specs.declared.transaction.TxChange.{TxChange}
 use Rattle.role_model.specs.declared.metadata.Metadata.{Metadata}
 use Rattle.model.specs.Queries.{QueryKind, Live, Once, Stream, Result, result}
 use Rattle.model.specs.State.{State, Subscription, Member, Job, Effect, nothing}
@@ -28,7 +29,7 @@ pub record Publishing (job : Job) (s t : State) : Type 0 where
   pub due_live : DueLive s.subscriptions s.due → DueLive t.subscriptions t.due
   pub jobs : t.jobs ≡ s.jobs
   pub taken : t.taken ≡ s.taken
-  pub version : version_of t ≡ version_of s
+  pub transactions : t.transactions ≡ s.transactions
 
 publishing_same : (job : Job) (s : State) → Publishing job s s
 publishing_same job s = record {
@@ -40,7 +41,7 @@ publishing_same job s = record {
   due_live = λ h. h;
   jobs = refl;
   taken = refl;
-  version = refl;
+  transactions = refl;
 }
 
 moved_then : (job : Job) (f g : Subscription → Subscription) → Alike f → (x : Subscription) → ((f x).cursor ≡ x.cursor) ⊎ (is_member x.number job ≡ true) → ((g (f x)).cursor ≡ (f x).cursor) ⊎ (is_member (f x).number job ≡ true) →
@@ -59,7 +60,7 @@ publishing_then job s t u p q = record {
   due_live = λ h. q.due_live (p.due_live h);
   jobs = q.jobs ∙ p.jobs;
   taken = q.taken ∙ p.taken;
-  version = q.version ∙ p.version;
+  transactions = q.transactions ∙ p.transactions;
 }
 
 if_publishing : (job : Job) (s : State) (b : Bool) (e f : Effect) → Publishing job s e.state → Publishing job s f.state → Publishing job s (if b then e else f).state
@@ -89,7 +90,7 @@ remembering job s sub text payload = record {
   due_live = λ h. due_live_mapped (at_subscription sub.number (remembers text)) (at_alike sub.number (remembers text) (remembers_alike text)) (λ x. same_live (remembers text) (x.number == sub.number) x refl) s.subscriptions s.due h;
   jobs = refl;
   taken = refl;
-  version = refl;
+  transactions = refl;
 }
 
 moving : (job : Job) (s : State) (sub : Subscription) (cursor : Val) (payload : List ℕ) → is_member sub.number job ≡ true → Publishing job s (queue_next sub payload (with_subscription sub.number (moves_to cursor) s)).state
@@ -106,7 +107,7 @@ moving job s sub cursor payload member = record {
   due_live = λ h. due_live_mapped (at_subscription sub.number (moves_to cursor)) (at_alike sub.number (moves_to cursor) (moves_alike cursor)) (λ x. same_live (moves_to cursor) (x.number == sub.number) x refl) s.subscriptions s.due h;
   jobs = refl;
   taken = refl;
-  version = refl;
+  transactions = refl;
 }
 
 kind_publishing : (job : Job) (k : QueryKind) (sub : Subscription) (r : Result) (s : State) → is_member sub.number job ≡ true → Publishing job s (publish_kind k sub r s).state
@@ -121,7 +122,7 @@ kind_publishing job Once sub r s member = record {
   due_live = λ h. due_live_ended (is_subscription sub.number) s.subscriptions s.due h;
   jobs = refl;
   taken = refl;
-  version = refl;
+  transactions = refl;
 }
 kind_publishing job Stream sub r s member =
     if_publishing job s (nat_lt 0 r.rows) (queue_next sub r.text (with_subscription sub.number (moves_to r.last) s)) (nothing s) (moving job s sub r.last r.text member) (publishing_same job s)
@@ -178,7 +179,7 @@ publish_moves meta number s job w at =
           | inr member ↦ (let free = others_free s w number job at x a member in inr ((λ other b. free.0 other (subst (λ (l : List Job). Among other (without_job number l)) p.jobs b)), free.1))
           ];
       taken = p.taken;
-      later = let same = p.version in omega (arith, same);
+      later = let same = ap (λ (l : List (List TxChange)). length l) p.transactions in omega (arith, same);
     }
 
 pub publish_sound : (meta : Metadata) (number : ℕ) (s : State) (o : Option Job) → Sound s → job_at number s.jobs ≡ o → Sound (publish meta number s o).state

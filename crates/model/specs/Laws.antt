@@ -1,19 +1,20 @@
 -- Laws over whole runs: what is told to each subscription, in which order and until when, and which jobs may be open
 -- together. They speak of any list of events. This project's own, after the `graphql-transport-ws` protocol and Hasura's
 -- live query architecture.
-use Rattle.std.specs.Prelude.{◌≡◌, ◌≢◌, ◌≤◌, ◌<◌, ℕ, Bool, true, false, ◌&&◌, ◌==◌, ⊤, if◌then◌else◌, is_some, Option, Some, None, List, [], ◌∷◌, ◌++◌, length, map, filter, codes}
+use Rattle.std.specs.Prelude.{◌≡◌, ◌≢◌, ◌≤◌, ◌<◌, ℕ, Bool, true, false, ◌&&◌, ◌==◌, nat_lt, ⊤, if◌then◌else◌, is_some, Option, Some, None, List, [], ◌∷◌, ◌++◌, length, map, filter, codes}
 use Rattle.std.specs.List.{list_any, flat_map, starts_with, AllByRecursion}
 use Rattle.scalar_val.specs.declared.val.Val.{Val}
 use Rattle.data_model.specs.Rows.{Database}
 use Rattle.role_model.specs.declared.metadata.Metadata.{Metadata}
 use Rattle.role_model.specs.declared.session.Session.{Session}
-use Rattle.model.specs.Queries.{Query, Live, Once}
+use Rattle.data_model.specs.Transactions.{snapshot}
+use Rattle.model.specs.Queries.{Query, QueryKind, Live, Once, Stream, Result, result}
 use Rattle.model.specs.Messages.{Subscribe, Request, next_text, complete_text}
 use Rattle.model.specs.Admission.{Admits, admits}
 use Rattle.model.specs.State.{State, Acknowledged, Connection, Subscription, Member, Job, Event, Receive, Publish, Gone, Queued, opening}
 use Rattle.model.specs.Connections.{connection_at, is_live_id, subscription_of}
 use Rattle.model.specs.Batches.{are_of_one_cohort, subscription_at, is_member, is_busy, job_at}
-use Rattle.model.specs.Publication.{publish_member, database_of}
+use Rattle.model.specs.Publication.{is_new, publish_member, database_of}
 use Rattle.model.specs.Run.{happens, run, steps}
 
 -- Turns
@@ -83,6 +84,27 @@ nexts = filter (λ q. is_next q.text)
 -- The `next` texts of a run are those of its turns, in order: no other event queues one.
 abbrev pub ResultsAreOfTurns : Metadata → Type 0
 ResultsAreOfTurns meta = (h : List Event) → nexts (flat_map (λ s. s.queued) (steps meta h)) ≡ nexts (flat_map (λ t. t.queued) (turns meta h))
+
+-- what a subscription is told of a result, as it stands at its turn: a live query first and then only on change, a query
+-- that is answered once also that it is complete, and a stream where there are rows
+abbrev pub said : QueryKind → Subscription → Result → List (List ℕ)
+said Live sub r = if is_new sub.last r.text then next_text sub.id r.text ∷ [] else []
+said Once sub r = next_text sub.id r.text ∷ complete_text sub.id ∷ []
+said Stream sub r = if nat_lt 0 r.rows then next_text sub.id r.text ∷ [] else []
+
+abbrev pub to_connection : ℕ → List ℕ → Queued
+to_connection connection text = record { connection = connection; text = text }
+
+-- The result of the subscription's own query and cursor, alone, on the one snapshot of the turn's version.
+abbrev pub own_result : Metadata → State → Turn → Result
+own_result meta s t = result meta t.subscription.query t.subscription.cursor (snapshot meta.catalog s.transactions t.version)
+
+abbrev pub IsOwnResult : Metadata → State → Turn → Type 0
+IsOwnResult meta s t = t.queued ≡ map (to_connection t.subscription.connection) (said t.subscription.query.kind t.subscription (own_result meta s t))
+
+-- every turn tells the subscription's own result, on its own connection
+abbrev pub TellsOwnResults : Metadata → Type 0
+TellsOwnResults meta = (h : List Event) → AllByRecursion (IsOwnResult meta (run meta h)) (turns meta h)
 
 -- Order of snapshots
 

@@ -1,4 +1,4 @@
-ghost use Rattle.model.specs.Laws.{ResultsAreOfTurns, NeverReturns, BeginsAtItsSubscribe, TellsChanges, EndsForGood, AnswersOnce, ClosesEnd, GoneEnds, AdmitsSubscribes, KeepsBatchesApart};
+ghost use Rattle.model.specs.Laws.{ResultsAreOfTurns, TellsOwnResults, NeverReturns, BeginsAtItsSubscribe, TellsChanges, EndsForGood, AnswersOnce, ClosesEnd, GoneEnds, AdmitsSubscribes, KeepsBatchesApart};
 
 use role_model::Metadata;
 
@@ -6,6 +6,9 @@ use role_model::Metadata;
 /// publication of which it is a live member.
 ///
 /// - `results`: each `next` text is queued at a turn.
+/// - `own`: at each turn a subscription is told the result of its own query and cursor, alone, on the snapshot after as
+///   many accepted transactions as the job's version says: a live query first and then only on change, a query that is
+///   answered once and then completed, a stream where there are rows.
 /// - `order`, `beginning`: the versions of a subscription's turns never fall, and none is below the version at its
 ///   subscribe.
 /// - `change`: two consecutive texts that a live query is told differ.
@@ -18,6 +21,7 @@ use role_model::Metadata;
 ///   due is live and of a cohort without a member in an open job.
 pub fn run_laws()
     ensures results { (meta : Metadata) → ResultsAreOfTurns meta }
+    ensures own { (meta : Metadata) → TellsOwnResults meta }
     ensures order { (meta : Metadata) → NeverReturns meta }
     ensures beginning { (meta : Metadata) → BeginsAtItsSubscribe meta }
     ensures change { (meta : Metadata) → TellsChanges meta }

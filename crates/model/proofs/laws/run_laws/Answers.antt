@@ -2,12 +2,16 @@ use Rattle.model.proofs.AdmittedSubscribes.{admits_subscribes}
 use Rattle.model.proofs.Changes.{tells_changes}
 use Rattle.model.proofs.EndedSubscriptions.{ends_for_good, answers_once, closes_end, gone_ends}
 use Rattle.model.proofs.Order.{never_returns, begins_at_its_subscribe}
+use Rattle.model.proofs.OwnResults.{tells_own_results}
 use Rattle.model.proofs.SoundRuns.{keeps_batches_apart}
 use Rattle.model.proofs.ToldResults.{results_are_of_turns}
 use Rattle.model.proofs.laws.run_laws.Goals as goal
 
 pub returns-clause-results : goal.returns-clause-results
 returns-clause-results c = results_are_of_turns
+
+pub returns-clause-own : goal.returns-clause-own
+returns-clause-own c = tells_own_results
 
 pub returns-clause-order : goal.returns-clause-order
 returns-clause-order c = never_returns
