@@ -17,3 +17,4 @@ pub mod Order
 pub mod Filters
 pub mod WorkedReaders
 pub mod OwnResults
+pub mod WorkedLaws
