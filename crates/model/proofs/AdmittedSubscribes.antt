@@ -32,6 +32,7 @@ not_admitted s number id Unread h = refl
 
 pub admits_subscribes : (meta : Metadata) → AdmitsSubscribes meta
 admits_subscribes meta h c session id r known phase free =
-    let reached = subscribed_to meta (run meta h) c session id r known phase free in
-    ((λ query cursor admitted. reached ∙ ap (λ (a : Admission). (subscribed c.number id (run meta h) a).state) admitted),
-     (λ refused. ap (λ (t : State). length t.subscriptions) reached ∙ not_admitted (run meta h) c.number id (admits meta session r) refused))
+    let reached = subscribed_to meta (run meta h) c session id r known phase free in (
+      (λ query cursor admitted. reached ∙ ap (λ (a : Admission). (subscribed c.number id (run meta h) a).state) admitted),
+      (λ refused. ap (λ (t : State). length t.subscriptions) reached ∙ not_admitted (run meta h) c.number id (admits meta session r) refused),
+    )

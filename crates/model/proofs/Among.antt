@@ -1,6 +1,5 @@
 -- The items of a list.
 use Rattle.std.proofs.Common.{◌≡◌, ◌⊎◌, inl, inr, ◌∙◌, sym, ap, refl, subst, ℕ, Bool, true, false, ◌&&◌, ◌||◌, cond, Some, None, Option, List, [], ◌∷◌, ◌++◌, map, filter, take, zero, suc}
-use Rattle.std.specs.Bool.{⊤}
 use Rattle.std.specs.Option.{IfSome, is_some}
 use Rattle.std.specs.List.{list_any, find, AllByRecursion}
 use Rattle.model.specs.Laws.{EachPair}

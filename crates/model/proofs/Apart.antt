@@ -1,22 +1,14 @@
 -- What holds of every state that a run reaches: open jobs have no cohort in common, and who is due is in none.
-use Rattle.std.proofs.Common.{◌≡◌, ◌≢◌, ◌⊎◌, inl, inr, ◌∙◌, sym, ap, refl, subst, ℕ, ◌+◌, ◌≤◌, ◌<◌, ◌==◌, nat_lt, Bool, true, false, ◌&&◌, ◌||◌, not, cond, if◌then◌else◌, Some, None, Option, List, [], ◌∷◌, ◌++◌, length, append-nil, map, filter, take, arith, Result, Ok, Err}
-use Rattle.std.specs.Bool.{⊤}
-use Rattle.std.specs.Option.{is_some}
-use Rattle.std.specs.List.{list_any, find, filter_map, position_from, cons_option, AllByRecursion}
-use Rattle.std.proofs.lemmas.Bool.{eqb-true, eq-eqb, eqb-false, ne_eqb, true≢false, not-true}
+use Rattle.std.proofs.Common.{◌≡◌, ◌≢◌, inl, inr, ◌∙◌, sym, ap, refl, subst, ℕ, ◌≤◌, ◌==◌, true, false, ◌&&◌, List, [], ◌∷◌, ◌++◌, length, append-nil, map, arith}
+use Rattle.std.specs.List.{list_any}
+use Rattle.std.proofs.lemmas.Bool.{eqb-true, eq-eqb, true≢false}
 use Rattle.std.proofs.lemmas.List.{length-map, length-append}
-use Rattle.scalar_val.specs.declared.val.Val.{Val}
-use Rattle.role_model.specs.declared.metadata.Metadata.{Metadata}
-use Rattle.model.specs.Values.{same_value}
-use Rattle.model.specs.Queries.{Query, same_poller, same_binding}
-use Rattle.model.specs.State.{State, Subscription, Member, Job, Event, opening}
-use Rattle.model.specs.Connections.{ended_if, end_where}
-use Rattle.model.specs.Batches.{are_polled_together, are_of_one_cohort, is_subscription, subscription_at, is_member, is_busy, numbers, idle, is_due, first_of_each, batch, member_at, member_of, members_of, next_job, taken_with, take_from, tick, is_job, job_at, without_job, abandon}
+use Rattle.model.specs.State.{State, Subscription, Job}
+use Rattle.model.specs.Batches.{are_of_one_cohort, is_member, is_busy, is_due}
 use Rattle.model.specs.Laws.{EachPair, version_of}
-use Rattle.model.proofs.Tests.{or_false}
-use Rattle.model.proofs.Among.{Among, among_left, among_append, among_map, among_filter, among_take, or_true_left, or_true_right, or_true, and_true, and_both, not_true, any_among, among_any, not_any, found_among, among_found, some_of, all_from_among, pairs_then, pairs_filter, pairs_push}
+use Rattle.model.proofs.Among.{Among, among_append, among_map, and_true, and_both, not_true, any_among, among_any}
 use Rattle.model.proofs.SameCohort.{cohort_equiv}
-use Rattle.model.proofs.Following.{Alike, Unmoved, Follows, Proceeds, IsNewer}
+use Rattle.model.proofs.Following.{Alike, IsNewer}
 
 -- there is a subscription of this number
 abbrev pub IsKnown : List Subscription → ℕ → Type 0
@@ -55,7 +47,7 @@ cohort_then a b c h i = cohort_equiv.congr a b c h ∙ i
 pub busy_by : (subs : List Subscription) (jobs : List Job) (x o : Subscription) (i : Job) → Among o subs → Among i jobs → are_of_one_cohort x o ≡ true → is_member o.number i ≡ true → is_busy subs jobs x ≡ true
 busy_by subs jobs x o i a b c m =
     among_any (λ (other : Subscription). are_of_one_cohort x other && list_any (is_member other.number) jobs) o subs a
-        (and_both (are_of_one_cohort x o) (list_any (is_member o.number) jobs) c (among_any (is_member o.number) i jobs b m))
+    (and_both (are_of_one_cohort x o) (list_any (is_member o.number) jobs) c (among_any (is_member o.number) i jobs b m))
 
 -- the subscription and the job by which a cohort is busy
 pub record Occupied (subs : List Subscription) (jobs : List Job) (x : Subscription) : Type 0 where
@@ -113,14 +105,15 @@ numbered_newer subs (n ∷ []) w new = record {
       elim (among_append y subs (n ∷ []) b) [ inl c ↦ (let low = w.bounded y c in omega (arith, low, count)) | inr c ↦ (let e = ap (λ (u : Subscription). u.number) (only y n c) in let number = new.0 in omega (arith, e, number, count)) ];
   unique = λ y z b c e.
       elim (among_append y subs (n ∷ []) b) [
-        inl p ↦ elim (among_append z subs (n ∷ []) c) [ inl q ↦ w.unique y z p q e | inr q ↦ absurd (apart y z p q e) ]
-      | inr p ↦ elim (among_append z subs (n ∷ []) c) [ inl q ↦ absurd (apart z y q p (sym e)) | inr q ↦ only y n p ∙ sym (only z n q) ]
+        | inl p ↦ elim (among_append z subs (n ∷ []) c) [ inl q ↦ w.unique y z p q e | inr q ↦ absurd (apart y z p q e) ]
+        | inr p ↦ elim (among_append z subs (n ∷ []) c) [ inl q ↦ absurd (apart z y q p (sym e)) | inr q ↦ only y n p ∙ sym (only z n q) ]
       ];
 }
   where
     only : (y n : Subscription) → Among y (n ∷ []) → y ≡ n
     only y n (inl e) = e
     only y n (inr a) = absurd a
+
     apart : (y z : Subscription) → Among y subs → Among z (n ∷ []) → y.number ≡ z.number → ⊥
     apart y z p q e = let low = w.bounded y p in let same = ap (λ (u : Subscription). u.number) (only z n q) in let number = new.0 in omega (arith, low, same, number, e)
 numbered_newer subs (a ∷ b ∷ more) w new = absurd new

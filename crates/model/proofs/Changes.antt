@@ -1,8 +1,8 @@
 -- What a live query is told changes from text to text.
-use Rattle.std.proofs.Common.{◌≡◌, ◌≢◌, ◌∙◌, sym, ap, refl, subst, ℕ, ◌==◌, nat_lt, Bool, true, false, ◌&&◌, not, cond, if◌then◌else◌, Some, None, Option, List, [], ◌∷◌, ◌++◌, append-nil, length, map, filter, codes}
+use Rattle.std.proofs.Common.{◌≡◌, ◌≢◌, ◌∙◌, sym, ap, refl, subst, ℕ, ◌==◌, nat_lt, Bool, true, false, not, cond, if◌then◌else◌, Some, None, Option, List, [], ◌∷◌, ◌++◌, append-nil, length, map, filter, codes}
 use Rattle.std.specs.Bool.{⊤}
 use Rattle.std.specs.Option.{IfSome, option_map, option_or, option_and_then}
-use Rattle.std.specs.List.{find, flat_map}
+use Rattle.std.specs.List.{flat_map}
 use Rattle.std.proofs.lemmas.Bool.{eqb-true, eqb-false, eq-eqb, ne_eqb, true≢false}
 use Rattle.std.proofs.lemmas.Cmp.{nat_list_eq_equiv}
 use Rattle.std.proofs.lemmas.List.{append_cancel_left, append_cancel_right}
@@ -18,11 +18,11 @@ use Rattle.model.specs.Messages.{next_text}
 use Rattle.model.specs.State.{State, Subscription, Member, Job, Event, Connect, Receive, Binary, Timeout, Gone, Commit, Tick, Take, Publish, Abandon, Drain, Report, Skip, Effect, opening, nothing}
 use Rattle.model.specs.Connections.{ended_if}
 use Rattle.model.specs.Batches.{is_subscription, subscription_at, job_at}
-use Rattle.model.specs.Publication.{at_subscription, remembers, moves_to, is_new, publish_live, publish_kind, publish_member, publish_members, publish, database_of, queue_next, with_subscription}
-use Rattle.model.specs.Run.{happens, after_all, run}
+use Rattle.model.specs.Publication.{at_subscription, remembers, moves_to, is_new, publish_kind, publish_member, publish_members, publish, database_of, queue_next, with_subscription}
+use Rattle.model.specs.Run.{happens, after_all}
 use Rattle.model.specs.Laws.{Turn, turn_of, turns_in, turns_of_job, turns_at, turns_from, is_turn_of, texts, told, EachDiffersFromNext, TellsChanges}
 use Rattle.model.proofs.Tests.{found_passes}
-use Rattle.model.proofs.Following.{Alike, Unmoved, at_alike, remembers_alike, moves_alike, ended_alike, ended_unmoved, Follows, Proceeds, IsNewer, IsOther, member_follows, members_follow, event_proceeds}
+use Rattle.model.proofs.Following.{Alike, at_alike, remembers_alike, moves_alike, ended_alike, ended_unmoved, Follows, Proceeds, IsNewer, IsOther, member_follows, event_proceeds}
 use Rattle.model.proofs.Finding.{at_mapped, at_followed, at_proceeded}
 
 -- Texts that change, each from the one before; `last` is the one before the first.
@@ -163,18 +163,18 @@ other_kind : (number : ℕ) (k : QueryKind) (sub : Subscription) (r : Result) (s
     heard_by number (publish_kind k sub r s).state.subscriptions ≡ heard_by number s.subscriptions
 other_kind number Live sub r s e =
     if_heard number (is_new sub.last r.text) (queue_next sub r.text (with_subscription sub.number (remembers r.text) s)) (nothing s) (heard_by number s.subscriptions)
-        (other_turn number sub r.text s.subscriptions e) refl
+    (other_turn number sub r.text s.subscriptions e) refl
 other_kind number Once sub r s e =
     kept_last (ended_if (is_subscription sub.number)) (ended_alike (is_subscription sub.number)) (ended_unmoved (is_subscription sub.number)).last number s.subscriptions
 other_kind number Stream sub r s e =
     if_heard number (nat_lt 0 r.rows) (queue_next sub r.text (with_subscription sub.number (moves_to r.last) s)) (nothing s) (heard_by number s.subscriptions)
-        (kept_last (at_subscription sub.number (moves_to r.last)) (at_alike sub.number (moves_to r.last) (moves_alike r.last)) (at_moved sub.number r.last) number s.subscriptions) refl
+    (kept_last (at_subscription sub.number (moves_to r.last)) (at_alike sub.number (moves_to r.last) (moves_alike r.last)) (at_moved sub.number r.last) number s.subscriptions) refl
 
 -- the turn of the live query itself
 own_live : (number : ℕ) (sub : Subscription) (r : Result) (s : State) (b : Bool) → subscription_at number s.subscriptions ≡ Some sub → is_new sub.last r.text ≡ b →
     Tells (heard_by number s.subscriptions)
-        (heard_by number (if b then queue_next sub r.text (with_subscription sub.number (remembers r.text) s) else nothing s).state.subscriptions)
-        (texts (if b then queue_next sub r.text (with_subscription sub.number (remembers r.text) s) else nothing s).queued)
+    (heard_by number (if b then queue_next sub r.text (with_subscription sub.number (remembers r.text) s) else nothing s).state.subscriptions)
+    (texts (if b then queue_next sub r.text (with_subscription sub.number (remembers r.text) s) else nothing s).queued)
 own_live number sub r s true at new = record {
   changing = subst (λ (o : Option (List ℕ)). Changing o (next_text sub.id r.text ∷ [])) (sym (ap heard at)) (new_changing sub.id sub.last r.text new);
   reached = own_turn number sub r.text s.subscriptions at;
@@ -203,11 +203,11 @@ turn_by number version sub r s false e own = tells_nothing _ _ (other_kind numbe
 turn_when : (number version : ℕ) (sub : Subscription) (r : Result) (s : State) (live : Bool) →
     (is_subscription number sub ≡ true → (subscription_at number s.subscriptions ≡ Some sub) × (sub.query.kind ≡ Live)) →
     Tells (heard_by number s.subscriptions) (heard_by number (if live then publish_kind sub.query.kind sub r s else nothing s).state.subscriptions)
-        (said_to number (if live then record { version = version; subscription = sub; queued = (if live then publish_kind sub.query.kind sub r s else nothing s).queued } ∷ [] else []))
+    (said_to number (if live then record { version = version; subscription = sub; queued = (if live then publish_kind sub.query.kind sub r s else nothing s).queued } ∷ [] else []))
 turn_when number version sub r s true own =
     let t : Turn = record { version = version; subscription = sub; queued = (publish_kind sub.query.kind sub r s).queued } in
     subst (λ (ts : List (List ℕ)). Tells (heard_by number s.subscriptions) (heard_by number (publish_kind sub.query.kind sub r s).state.subscriptions) ts)
-        (sym (said_one number t (is_subscription number sub) refl)) (turn_by number version sub r s (is_subscription number sub) refl own)
+    (sym (said_one number t (is_subscription number sub) refl)) (turn_by number version sub r s (is_subscription number sub) refl own)
 turn_when number version sub r s false own = tells_nothing _ _ refl
 
 turn_tells : (meta : Metadata) (db : Database) (version number k : ℕ) (s : State) (o : Option Subscription) → subscription_at k s.subscriptions ≡ o → IsLiveQuery (subscription_at number s.subscriptions) →
@@ -215,11 +215,11 @@ turn_tells : (meta : Metadata) (db : Database) (version number k : ℕ) (s : Sta
 turn_tells meta db version number k s None at live = tells_nothing _ _ refl
 turn_tells meta db version number k s (Some sub) at live =
     turn_when number version sub (result meta sub.query sub.cursor db) s sub.live
-        (λ own.
-            let passes : (sub.number == k) ≡ true = subst (λ (o : Option Subscription). IfSome o (λ x. (x.number == k) ≡ true)) at (found_passes (is_subscription k) s.subscriptions) in
-            let same = sym (eqb-true sub.number k passes) ∙ eqb-true sub.number number own in
-            let found = ap (λ (n : ℕ). subscription_at n s.subscriptions) (sym same) ∙ at in
-            (found, subst (λ (o : Option Subscription). IsLiveQuery o) found live))
+    (λ own.
+    let passes : (sub.number == k) ≡ true = subst (λ (o : Option Subscription). IfSome o (λ x. (x.number == k) ≡ true)) at (found_passes (is_subscription k) s.subscriptions) in
+    let same = sym (eqb-true sub.number k passes) ∙ eqb-true sub.number number own in
+    let found = ap (λ (n : ℕ). subscription_at n s.subscriptions) (sym same) ∙ at in
+    (found, subst (λ (o : Option Subscription). IsLiveQuery o) found live))
 
 -- Members, events and runs
 
@@ -240,9 +240,9 @@ members_tell meta db version number (m ∷ ms) s live =
     let sub = subscription_at m.subscription s.subscriptions in
     let after = (publish_member meta db s sub).state in
     said_both number (heard_by number s.subscriptions) (heard_by number after.subscriptions) (heard_by number (publish_members meta db ms after).state.subscriptions)
-        (turn_of meta db version s sub) (turns_in meta db version ms after)
-        (turn_tells meta db version number m.subscription s sub refl live)
-        (members_tell meta db version number ms after (live_followed number s.subscriptions after.subscriptions (member_follows meta db s sub) live))
+    (turn_of meta db version s sub) (turns_in meta db version ms after)
+    (turn_tells meta db version number m.subscription s sub refl live)
+    (members_tell meta db version number ms after (live_followed number s.subscriptions after.subscriptions (member_follows meta db s sub) live))
 
 job_tells : (meta : Metadata) (job number : ℕ) (s : State) (o : Option Job) → IsLiveQuery (subscription_at number s.subscriptions) →
     Tells (heard_by number s.subscriptions) (heard_by number (publish meta job s o).state.subscriptions) (said_to number (turns_of_job meta s o))
@@ -267,7 +267,7 @@ still_heard still number subs after p holds =
     ap heard (at_proceeded still subs after p number)
     ∙ heard_or (option_map p.change (subscription_at number subs)) (subscription_at number p.more) (newer_unheard (length subs) number p.more p.newer)
     ∙ heard_map p.change (subscription_at number subs)
-        (λ x. ap (λ (id : List ℕ). option_map (next_text id) (p.change x).last) (p.alike.id x) ∙ ap (λ (o : Option (List ℕ)). option_map (next_text x.id) o) ((p.unmoved holds).last x))
+    (λ x. ap (λ (id : List ℕ). option_map (next_text id) (p.change x).last) (p.alike.id x) ∙ ap (λ (o : Option (List ℕ)). option_map (next_text x.id) o) ((p.unmoved holds).last x))
 
 quiet : (meta : Metadata) (number : ℕ) (s : State) (e : Event) → IsOther e → Tells (heard_by number s.subscriptions) (heard_by number (happens meta s e).state.subscriptions) []
 quiet meta number s e other = tells_nothing _ _ (still_heard (IsOther e) number s.subscriptions (happens meta s e).state.subscriptions (event_proceeds meta s e) other)
@@ -309,7 +309,7 @@ run_tells meta number [] s live = tells_nothing _ _ refl
 run_tells meta number (e ∷ h) s live =
     let after = (happens meta s e).state in
     said_both number (heard_by number s.subscriptions) (heard_by number after.subscriptions) (heard_by number (after_all meta after h).subscriptions) (turns_at meta s e) (turns_from meta after h)
-        (event_tells meta number s e (live_at_start meta number (e ∷ h) s live)) (run_tells meta number h after live)
+    (event_tells meta number s e (live_at_start meta number (e ∷ h) s live)) (run_tells meta number h after live)
 
 pub tells_changes : (meta : Metadata) → TellsChanges meta
 tells_changes meta h number sub at live = differ (told meta h number) (run_tells meta number h opening (subst IsLiveQuery (sym at) live)).changing

@@ -1,6 +1,5 @@
 -- Subscriptions end for good, and a close or the end of a connection ends them.
-use Rattle.std.proofs.Common.{◌≡◌, ◌∙◌, sym, ap, refl, ℕ, ◌+◌, ◌≤◌, ◌==◌, nat_lt, subst, Bool, true, false, ◌&&◌, ◌||◌, not, cond, if◌then◌else◌, Some, None, Option, List, [], ◌∷◌, ◌++◌, append-nil, length, map, filter, Result, Ok, Err, arith}
-use Rattle.std.specs.Bool.{⊤}
+use Rattle.std.proofs.Common.{◌≡◌, ◌∙◌, sym, ap, refl, ℕ, ◌≤◌, ◌==◌, nat_lt, subst, Bool, true, false, ◌&&◌, not, cond, if◌then◌else◌, Some, None, Option, List, [], ◌∷◌, ◌++◌, append-nil, length, map, filter, Result, Ok, Err, arith}
 use Rattle.std.specs.Option.{IfSome, is_some}
 use Rattle.std.specs.List.{list_any, find, AllByRecursion}
 use Rattle.std.proofs.lemmas.List.{length-map, length-append}
@@ -19,13 +18,13 @@ use Rattle.model.specs.Queries.{QueryKind, Live, Once, Stream, Result as Answer,
 use Rattle.model.specs.Messages.{Message, Init, Subscribe, Complete, Ping, Pong, Bad, exists_reason, next_text, complete_text}
 use Rattle.model.specs.Admission.{Admission, Admits, Refuses, Unread, admits}
 use Rattle.model.specs.State.{State, Phase, Fresh, Acknowledged, Closed, Connection, Subscription, Member, Job, Event, Connect, Receive, Binary, Timeout, Gone, Commit, Tick, Take, Publish, Abandon, Drain, Report, Skip, Effect, Step, Close, with_reply, nothing, Did}
-use Rattle.model.specs.Connections.{connection_at, is_connection, is_of, is_live_id, ended_if, on_known, connect, receive, initialised, subscribe, subscribed, timed_out, gone, drained, close_connection}
+use Rattle.model.specs.Connections.{connection_at, is_connection, is_of, is_live_id, ended_if, on_known, connect, receive, initialised, subscribed, timed_out, gone, drained, close_connection}
 use Rattle.model.specs.Batches.{is_subscription, subscription_at, take_from, abandon, job_at}
-use Rattle.model.specs.Publication.{is_new, publish_live, publish_once, publish_stream, publish_kind, publish_member, publish_members, publish, database_of, queue_next}
-use Rattle.model.specs.Run.{happens, commit, database_now, after_all, run}
-use Rattle.model.specs.Laws.{Turn, turn_of, turns_in, turns_of_job, turns_at, turns_from, turns, turns_for, is_turn_of, is_live, is_live_on, HasNoneLive, EndsForGood, IsAnswered, AnswersOnce, ClosesEnd, GoneEnds, texts}
-use Rattle.model.proofs.Tests.{or_false, or_both, and_right, and_weaker, none_mapped, none_found, found_passes, all_append, all_then}
-use Rattle.model.proofs.Runs.{after_all-append, turns-append}
+use Rattle.model.specs.Publication.{is_new, publish_kind, publish_member, publish_members, publish, database_of}
+use Rattle.model.specs.Run.{happens, commit, database_now, run}
+use Rattle.model.specs.Laws.{Turn, turn_of, turns_in, turns_of_job, turns_at, turns_from, turns, turns_for, is_turn_of, HasNoneLive, EndsForGood, IsAnswered, AnswersOnce, ClosesEnd, GoneEnds, texts}
+use Rattle.model.proofs.Tests.{or_both, and_right, and_weaker, none_mapped, none_found, all_append}
+use Rattle.model.proofs.Runs.{turns-append}
 use Rattle.model.proofs.Following.{Alike, Follows, Proceeds, IsNewer, IsOther, member_follows, members_follow, event_proceeds}
 
 -- What ended stays so
@@ -52,7 +51,7 @@ proceeds_ended still subs after p number le h =
     ap (λ (l : List Subscription). list_any (lives number) l) p.is
     ∙ list_any-append (lives number) (map p.change subs) p.more
     ∙ or_both (list_any (lives number) (map p.change subs)) (list_any (lives number) p.more)
-        (none_mapped (lives number) p.change (change_ended p.change p.alike number) subs h) (newer_ended (length subs) number le p.more p.newer)
+    (none_mapped (lives number) p.change (change_ended p.change p.alike number) subs h) (newer_ended (length subs) number le p.more p.newer)
 
 pub proceeds_longer : (still : Type 0) (subs after : List Subscription) → Proceeds still subs after → length subs ≤ length after
 proceeds_longer still subs after p =
@@ -78,7 +77,7 @@ no_turns_in meta db version number (m ∷ ms) s h =
     let after = (publish_member meta db s sub).state in
     filter-append (is_turn_of number) (turn_of meta db version s sub) (turns_in meta db version ms after)
     ∙ ap (λ (ts : List Turn). ts ++ filter (is_turn_of number) (turns_in meta db version ms after))
-        (no_turn_of meta db version s number sub (none_found (is_subscription m.subscription) (lives number) s.subscriptions h))
+    (no_turn_of meta db version s number sub (none_found (is_subscription m.subscription) (lives number) s.subscriptions h))
     ∙ no_turns_in meta db version number ms after (follows_ended s.subscriptions after.subscriptions (member_follows meta db s sub) number h)
 
 no_turns_of_job : (meta : Metadata) (s : State) (number : ℕ) (o : Option Job) → list_any (lives number) s.subscriptions ≡ false → filter (is_turn_of number) (turns_of_job meta s o) ≡ []
@@ -126,26 +125,26 @@ answered_kind Stream sub r s e = absurd (cc)
 
 answered_when : (version : ℕ) (sub : Subscription) (r : Answer) (s : State) (after : List Subscription) (live : Bool) → Follows (if live then publish_kind sub.query.kind sub r s else nothing s).state.subscriptions after →
     AllByRecursion (λ (t : Turn). t.subscription.query.kind ≡ Once → ((payload : List ℕ) × (texts t.queued ≡ next_text t.subscription.id payload ∷ complete_text t.subscription.id ∷ [])) × (list_any (lives t.subscription.number) after ≡ false))
-        (if live then record { version = version; subscription = sub; queued = (if live then publish_kind sub.query.kind sub r s else nothing s).queued } ∷ [] else [])
+    (if live then record { version = version; subscription = sub; queued = (if live then publish_kind sub.query.kind sub r s else nothing s).queued } ∷ [] else [])
 answered_when version sub r s after true f =
     ((λ once. let both = answered_kind sub.query.kind sub r s once in ((r.text, both.0), follows_ended _ after f sub.number both.1)), tt)
 answered_when version sub r s after false f = tt
 
 answered_member : (meta : Metadata) (db : Database) (version : ℕ) (s : State) (after : List Subscription) (o : Option Subscription) → Follows (publish_member meta db s o).state.subscriptions after →
     AllByRecursion (λ (t : Turn). t.subscription.query.kind ≡ Once → ((payload : List ℕ) × (texts t.queued ≡ next_text t.subscription.id payload ∷ complete_text t.subscription.id ∷ [])) × (list_any (lives t.subscription.number) after ≡ false))
-        (turn_of meta db version s o)
+    (turn_of meta db version s o)
 answered_member meta db version s after (Some sub) f = answered_when version sub (result meta sub.query sub.cursor db) s after sub.live f
 answered_member meta db version s after None f = tt
 
 answered_members : (meta : Metadata) (db : Database) (version : ℕ) (ms : List Member) (s : State) →
     AllByRecursion (λ (t : Turn). t.subscription.query.kind ≡ Once → ((payload : List ℕ) × (texts t.queued ≡ next_text t.subscription.id payload ∷ complete_text t.subscription.id ∷ [])) × (list_any (lives t.subscription.number) (publish_members meta db ms s).state.subscriptions ≡ false))
-        (turns_in meta db version ms s)
+    (turns_in meta db version ms s)
 answered_members meta db version [] s = tt
 answered_members meta db version (m ∷ ms) s =
     let sub = subscription_at m.subscription s.subscriptions in
     let after = (publish_member meta db s sub).state in
     all_append _ (turn_of meta db version s sub) (turns_in meta db version ms after)
-        (answered_member meta db version s (publish_members meta db ms after).state.subscriptions sub (members_follow meta db ms after)) (answered_members meta db version ms after)
+    (answered_member meta db version s (publish_members meta db ms after).state.subscriptions sub (members_follow meta db ms after)) (answered_members meta db version ms after)
 
 answered_job : (meta : Metadata) (number : ℕ) (s : State) (o : Option Job) → AllByRecursion (IsAnswered (publish meta number s o).state) (turns_of_job meta s o)
 answered_job meta number s (Some job) = answered_members meta (database_of meta s job) job.version job.members s

@@ -1,7 +1,6 @@
 -- The subscription of a number, as the subscriptions change.
-use Rattle.std.proofs.Common.{◌≡◌, ◌∙◌, sym, ap, refl, ℕ, ◌==◌, Bool, true, false, cond, Some, None, Option, List, [], ◌∷◌, ◌++◌, map}
-use Rattle.std.specs.Option.{IfSome, option_map, option_or}
-use Rattle.std.specs.List.{find}
+use Rattle.std.proofs.Common.{◌≡◌, ◌∙◌, ap, refl, ℕ, ◌==◌, Bool, true, false, cond, Some, Option, List, [], ◌∷◌, map}
+use Rattle.std.specs.Option.{option_map, option_or}
 use Rattle.std.proofs.lemmas.List.Folds.{find-append}
 use Rattle.model.specs.State.{Subscription}
 use Rattle.model.specs.Batches.{is_subscription, subscription_at}

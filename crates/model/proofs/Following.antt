@@ -1,11 +1,8 @@
 -- How the subscriptions of a state follow those of an earlier one: each keeps its number, connection, id and query, and
 -- none that ended is live again; at most one is new.
-use Rattle.std.proofs.Common.{◌≡◌, ◌∙◌, sym, ap, refl, ℕ, ◌+◌, ◌≤◌, ◌==◌, nat_lt, Bool, true, false, ◌&&◌, ◌||◌, if◌then◌else◌, Some, None, Option, List, [], ◌∷◌, ◌++◌, append-nil, length, map, Result, Ok, Err, arith}
+use Rattle.std.proofs.Common.{◌≡◌, ◌∙◌, sym, ap, refl, ℕ, ◌+◌, ◌==◌, nat_lt, Bool, true, false, if◌then◌else◌, Some, None, Option, List, [], ◌∷◌, ◌++◌, append-nil, length, map, Result, Ok, Err}
 use Rattle.std.specs.Bool.{⊤}
 use Rattle.std.specs.List.{list_any}
-use Rattle.std.proofs.lemmas.List.{length-map, length-append}
-use Rattle.std.proofs.lemmas.List.Folds.{list_any-append}
-use Rattle.std.proofs.lemmas.Bool.Decides.{eqb_tells}
 use Rattle.scalar_val.specs.declared.val.Val.{Val}
 use Rattle.data_model.specs.Rows.{Database}
 use Rattle.data_model.specs.declared.transaction.TxChange.{TxChange}
@@ -15,15 +12,15 @@ use Rattle.role_model.specs.declared.metadata.Metadata.{Metadata}
 use Rattle.role_model.specs.declared.session.Identity.{Identity}
 use Rattle.role_model.specs.declared.session.Identity.TheVariants as identity
 use Rattle.role_model.specs.Sessions.{identity_of}
-use Rattle.model.specs.Queries.{Query, QueryKind, Live, Once, Stream, Result as Answer, result}
+use Rattle.model.specs.Queries.{QueryKind, Live, Once, Stream, Result as Answer, result}
 use Rattle.model.specs.Messages.{Message, Init, Subscribe, Complete, Ping, Pong, Bad, exists_reason}
 use Rattle.model.specs.Admission.{Admission, Admits, Refuses, Unread, admits}
 use Rattle.model.specs.State.{State, Phase, Fresh, Acknowledged, Closed, Connection, Subscription, Member, Job, Event, Connect, Receive, Binary, Timeout, Gone, Commit, Tick, Take, Publish, Abandon, Drain, Report, Skip, Effect, Step, with_reply, nothing, Did}
-use Rattle.model.specs.Connections.{connection_at, is_of, is_live_id, ended_if, on_known, connect, receive, initialised, subscribe, subscribed, subscription_of, timed_out, gone, drained, close_connection}
+use Rattle.model.specs.Connections.{connection_at, is_of, is_live_id, ended_if, on_known, connect, receive, initialised, subscribed, subscription_of, timed_out, gone, drained, close_connection}
 use Rattle.model.specs.Batches.{is_subscription, subscription_at, take_from, abandon, job_at}
-use Rattle.model.specs.Publication.{at_subscription, remembers, moves_to, is_new, publish_live, publish_once, publish_stream, publish_kind, publish_member, publish_members, publish, database_of, queue_next, with_subscription}
-use Rattle.model.specs.Run.{happens, commit, database_now, after_all}
-use Rattle.model.proofs.Tests.{map_map, map_same, or_both, and_weaker, and_right, none_mapped}
+use Rattle.model.specs.Publication.{at_subscription, remembers, moves_to, is_new, publish_kind, publish_member, publish_members, publish, database_of, queue_next, with_subscription}
+use Rattle.model.specs.Run.{happens, commit, database_now}
+use Rattle.model.proofs.Tests.{map_map, map_same}
 
 -- a change that a subscription may undergo
 pub record Alike (f : Subscription → Subscription) : Type 0 where
@@ -150,11 +147,11 @@ if_follows subs false e f h i = i
 kind_follows : (k : QueryKind) (sub : Subscription) (r : Answer) (s : State) → Follows s.subscriptions (publish_kind k sub r s).state.subscriptions
 kind_follows Live sub r s =
     if_follows s.subscriptions (is_new sub.last r.text) (queue_next sub r.text (with_subscription sub.number (remembers r.text) s)) (nothing s)
-        (follows_by (at_subscription sub.number (remembers r.text)) (at_alike sub.number (remembers r.text) (remembers_alike r.text)) s.subscriptions) (follows_same s.subscriptions)
+    (follows_by (at_subscription sub.number (remembers r.text)) (at_alike sub.number (remembers r.text) (remembers_alike r.text)) s.subscriptions) (follows_same s.subscriptions)
 kind_follows Once sub r s = follows_by (ended_if (is_subscription sub.number)) (ended_alike (is_subscription sub.number)) s.subscriptions
 kind_follows Stream sub r s =
     if_follows s.subscriptions (nat_lt 0 r.rows) (queue_next sub r.text (with_subscription sub.number (moves_to r.last) s)) (nothing s)
-        (follows_by (at_subscription sub.number (moves_to r.last)) (at_alike sub.number (moves_to r.last) (moves_alike r.last)) s.subscriptions) (follows_same s.subscriptions)
+    (follows_by (at_subscription sub.number (moves_to r.last)) (at_alike sub.number (moves_to r.last) (moves_alike r.last)) s.subscriptions) (follows_same s.subscriptions)
 
 pub member_follows : (meta : Metadata) (db : Database) (s : State) (o : Option Subscription) → Follows s.subscriptions (publish_member meta db s o).state.subscriptions
 member_follows meta db s (Some sub) =

@@ -1,21 +1,20 @@
 -- Changes that keep jobs apart: subscriptions change and perhaps one comes, jobs may close, and who moved to another cohort
 -- is in no open job.
-use Rattle.std.proofs.Common.{◌≡◌, ◌≢◌, ◌⊎◌, inl, inr, ◌∙◌, sym, ap, refl, subst, ℕ, ◌+◌, ◌≤◌, ◌==◌, Bool, true, false, ◌&&◌, not, if◌then◌else◌, Some, None, Option, List, [], ◌∷◌, ◌++◌, append-nil, length, map, filter, arith}
-use Rattle.std.specs.Bool.{⊤}
+use Rattle.std.proofs.Common.{◌≡◌, ◌⊎◌, inl, inr, ◌∙◌, sym, ap, refl, subst, ℕ, ◌≤◌, ◌==◌, Bool, true, false, ◌&&◌, not, if◌then◌else◌, List, [], ◌∷◌, ◌++◌, append-nil, length, map, filter, arith}
 use Rattle.std.specs.List.{list_any}
-use Rattle.std.proofs.lemmas.Bool.{eqb-true, eq-eqb, true≢false, not-true}
-use Rattle.std.proofs.lemmas.List.{length-map, length-append}
+use Rattle.std.proofs.lemmas.Bool.{eq-eqb, true≢false, not-true}
+use Rattle.std.proofs.lemmas.List.{length-map}
 use Rattle.scalar_val.specs.declared.val.Val.{Val}
 use Rattle.model.specs.Values.{same_value}
 use Rattle.model.specs.Queries.{Query, same_poller, same_binding}
 use Rattle.model.specs.State.{State, Subscription, Job}
-use Rattle.model.specs.Connections.{ended_if, end_where}
+use Rattle.model.specs.Connections.{ended_if}
 use Rattle.model.specs.Batches.{are_of_one_cohort, is_member, is_busy, is_due}
 use Rattle.model.specs.Laws.{EachPair, version_of}
 use Rattle.model.proofs.Among.{Among, among_left, among_append, among_map, among_filter, and_both, not_true, among_any}
 use Rattle.model.proofs.Tests.{map_same}
-use Rattle.model.proofs.Following.{Alike, Unmoved, same_alike, ended_alike, ended_unmoved, IsNewer}
-use Rattle.model.proofs.Apart.{IsKnown, HaveOtherNumbers, AreNumbered, Sound, Occupied, not_busy, due_among, among_due, due_apart, numbered_mapped, numbered_newer}
+use Rattle.model.proofs.Following.{Alike, same_alike, ended_alike, ended_unmoved, IsNewer}
+use Rattle.model.proofs.Apart.{IsKnown, HaveOtherNumbers, AreNumbered, Sound, not_busy, due_among, among_due, due_apart, numbered_mapped, numbered_newer}
 
 pub record Moves (s t : State) : Type 0 where
   pub change : Subscription → Subscription
@@ -75,28 +74,29 @@ origin : (s t : State) → Sound s → (m : Moves s t) → (z : Subscription) �
     ((x : Subscription) → Among x s.subscriptions → x.number ≡ z.number → (m.change x).cursor ≡ x.cursor) → Origin s m.change z
 origin s t w m z a k h =
     elim (among_append z (map m.change s.subscriptions) m.more (subst (λ (l : List Subscription). Among z l) m.subs a)) [
-      inl b ↦ (let r = among_map m.change s.subscriptions z b in
-               let number = sym (m.alike.number r.0) ∙ sym (ap (λ (u : Subscription). u.number) r.2) in
-               record { from = r.0; within = r.1; is = r.2; cursor = h r.0 r.1 number })
-    | inr b ↦ absurd (new_unknown s.subscriptions m.more w.numbered m.newer z b k)
+      | inl b ↦ (let r = among_map m.change s.subscriptions z b in
+          let number = sym (m.alike.number r.0) ∙ sym (ap (λ (u : Subscription). u.number) r.2) in
+          record { from = r.0; within = r.1; is = r.2; cursor = h r.0 r.1 number })
+      | inr b ↦ absurd (new_unknown s.subscriptions m.more w.numbered m.newer z b k)
     ]
 
 origin_member : (s t : State) → Sound s → (m : Moves s t) → (z : Subscription) (job : Job) → Among z t.subscriptions → Among job t.jobs → is_member z.number job ≡ true → Origin s m.change z
 origin_member s t w m z job a b h =
     origin s t w m z a (w.members_known job (m.jobs_in job b) z.number h)
-        (λ x c e. elim (m.moved x c) [ inl same ↦ same | inr free ↦ absurd (true≢false (sym (ap (λ (n : ℕ). is_member n job) e ∙ h) ∙ free.0 job b)) ])
+    (λ x c e. elim (m.moved x c) [ inl same ↦ same | inr free ↦ absurd (true≢false (sym (ap (λ (n : ℕ). is_member n job) e ∙ h) ∙ free.0 job b)) ])
 
 origin_due : (s t : State) → Sound s → (m : Moves s t) → (z : Subscription) → Among z t.subscriptions → is_due t.due z ≡ true → Origin s m.change z
 origin_due s t w m z a h =
     let known = m.due_in z.number (due_among t.due z h) in
     origin s t w m z a (w.due_known z.number known)
-        (λ x c e. elim (m.moved x c) [ inl same ↦ same | inr free ↦ absurd (true≢false (sym (same_due s.due x z e ∙ among_due s.due z known) ∙ free.1)) ])
+    (λ x c e. elim (m.moved x c) [ inl same ↦ same | inr free ↦ absurd (true≢false (sym (same_due s.due x z e ∙ among_due s.due z known) ∙ free.1)) ])
 
 known_after : (s t : State) → (m : Moves s t) → (number : ℕ) → IsKnown s.subscriptions number → IsKnown t.subscriptions number
-known_after s t m number k =
-    (m.change k.0,
-     subst (λ (l : List Subscription). Among (m.change k.0) l) (sym m.subs) (among_left (m.change k.0) (map m.change s.subscriptions) m.more (among_mapped m.change k.0 s.subscriptions k.1)),
-     m.alike.number k.0 ∙ k.2)
+known_after s t m number k = (
+  m.change k.0,
+  subst (λ (l : List Subscription). Among (m.change k.0) l) (sym m.subs) (among_left (m.change k.0) (map m.change s.subscriptions) m.more (among_mapped m.change k.0 s.subscriptions k.1)),
+  m.alike.number k.0 ∙ k.2,
+)
 
 number_of_origin : (s : State) (f : Subscription → Subscription) → Alike f → (z : Subscription) (o : Origin s f z) → z.number ≡ o.from.number
 number_of_origin s f k z o = ap (λ (u : Subscription). u.number) o.is ∙ k.number o.from
@@ -111,13 +111,14 @@ idle_after : (s t : State) → Sound s → (m : Moves s t) → (x : Subscription
 idle_after s t w m x a d =
     let o = origin_due s t w m x a d in
     let number = number_of_origin s m.change m.alike x o in
-    let due : is_due t.due o.from ≡ true = sym (same_due t.due x o.from number) ∙ d in
-    (ap (λ (u : Subscription). u.live) o.is ∙ m.due_live o.from o.within due,
-     not_busy t.subscriptions t.jobs x (λ busy.
-         let p = origin_member s t w m busy.other busy.job busy.other_in busy.job_in busy.member in
-         due_apart s w o.from p.from busy.job o.within (among_due s.due o.from (m.due_in o.from.number (due_among t.due o.from due))) p.within (m.jobs_in busy.job busy.job_in)
-             (cohort_before s m.change m.alike x busy.other o p busy.cohort)
-             (sym (same_member busy.job busy.other p.from (number_of_origin s m.change m.alike busy.other p)) ∙ busy.member)))
+    let due : is_due t.due o.from ≡ true = sym (same_due t.due x o.from number) ∙ d in (
+      ap (λ (u : Subscription). u.live) o.is ∙ m.due_live o.from o.within due,
+      not_busy t.subscriptions t.jobs x (λ busy.
+          let p = origin_member s t w m busy.other busy.job busy.other_in busy.job_in busy.member in
+          due_apart s w o.from p.from busy.job o.within (among_due s.due o.from (m.due_in o.from.number (due_among t.due o.from due))) p.within (m.jobs_in busy.job busy.job_in)
+          (cohort_before s m.change m.alike x busy.other o p busy.cohort)
+          (sym (same_member busy.job busy.other p.from (number_of_origin s m.change m.alike busy.other p)) ∙ busy.member)),
+    )
 
 apart_after : (s t : State) → Sound s → (m : Moves s t) → (i j : Job) → Among i t.jobs → Among j t.jobs → (a b : Subscription) → Among a t.subscriptions → Among b t.subscriptions →
     are_of_one_cohort a b ≡ true → is_member a.number i ≡ true → is_member b.number j ≡ true → i.number ≡ j.number
@@ -125,14 +126,14 @@ apart_after s t w m i j k l a b c d h e f =
     let p = origin_member s t w m a i c k e in
     let q = origin_member s t w m b j d l f in
     w.apart i j (m.jobs_in i k) (m.jobs_in j l) p.from q.from p.within q.within (cohort_before s m.change m.alike a b p q h)
-        (sym (same_member i a p.from (number_of_origin s m.change m.alike a p)) ∙ e) (sym (same_member j b q.from (number_of_origin s m.change m.alike b q)) ∙ f)
+    (sym (same_member i a p.from (number_of_origin s m.change m.alike a p)) ∙ e) (sym (same_member j b q.from (number_of_origin s m.change m.alike b q)) ∙ f)
 
 pub moves_sound : (s t : State) → Sound s → Moves s t → Sound t
 moves_sound s t w m = record {
   numbered =
       subst AreNumbered (sym m.subs)
-          (numbered_newer (map m.change s.subscriptions) m.more (numbered_mapped m.change m.alike s.subscriptions w.numbered)
-              (subst (λ (n : ℕ). IsNewer n m.more) (sym (length-map s.subscriptions m.change)) m.newer));
+      (numbered_newer (map m.change s.subscriptions) m.more (numbered_mapped m.change m.alike s.subscriptions w.numbered)
+      (subst (λ (n : ℕ). IsNewer n m.more) (sym (length-map s.subscriptions m.change)) m.newer));
   members_known = λ job a number h. known_after s t m number (w.members_known job (m.jobs_in job a) number h);
   due_known = λ number a. known_after s t m number (w.due_known number (m.due_in number a));
   idle = idle_after s t w m;
@@ -169,7 +170,7 @@ still_due p subs due x a d =
     let left = among_filter (λ n. not (list_any (λ sub. sub.number == n && p sub) subs)) x.number due (due_among (due_without p subs due) x d) in
     let none = not-true (list_any (λ sub. sub.number == x.number && p sub) subs) left.1 in
     kept_when p x (p x) refl
-        (not_true (p x) (λ ends. true≢false (sym (among_any (λ (sub : Subscription). sub.number == x.number && p sub) x subs a (and_both (x.number == x.number) (p x) (eq-eqb x.number x.number refl) ends)) ∙ none)))
+    (not_true (p x) (λ ends. true≢false (sym (among_any (λ (sub : Subscription). sub.number == x.number && p sub) x subs a (and_both (x.number == x.number) (p x) (eq-eqb x.number x.number refl) ends)) ∙ none)))
 
 pub due_live_ended : (p : Subscription → Bool) (subs : List Subscription) (due : List ℕ) → DueLive subs due → DueLive (map (ended_if p) subs) (due_without p subs due)
 due_live_ended p subs due h x a d =

@@ -1,6 +1,5 @@
 -- No subscription returns to an older snapshot.
-use Rattle.std.proofs.Common.{◌≡◌, ◌⊎◌, inl, inr, ◌∙◌, sym, ap, refl, subst, ℕ, ◌+◌, ◌≤◌, ◌<◌, ◌==◌, Bool, true, false, if◌then◌else◌, Some, None, Option, List, [], ◌∷◌, ◌++◌, append-nil, length, length-append, map, filter, arith, Result, Ok, Err}
-use Rattle.std.specs.Bool.{⊤}
+use Rattle.std.proofs.Common.{◌≡◌, ◌⊎◌, inl, inr, ◌∙◌, sym, ap, refl, subst, ℕ, ◌≤◌, ◌<◌, ◌==◌, Bool, true, false, if◌then◌else◌, Some, None, Option, List, [], ◌∷◌, ◌++◌, append-nil, length, length-append, map, filter, arith, Result, Ok, Err}
 use Rattle.std.specs.List.{list_any, AllByRecursion}
 use Rattle.std.proofs.lemmas.Bool.{eqb-true, eq-eqb, true≢false}
 use Rattle.std.proofs.lemmas.List.{map-append}
@@ -18,15 +17,15 @@ use Rattle.model.specs.Admission.{Admission, Admits, Refuses, Unread, admits}
 use Rattle.model.specs.State.{State, Phase, Fresh, Acknowledged, Closed, Connection, Subscription, Member, Job, Event, Connect, Receive, Binary, Timeout, Gone, Commit, Tick, Take, Publish, Abandon, Drain, Report, Skip, Step, with_reply, Did, opening}
 use Rattle.model.specs.Connections.{connection_at, is_live_id, on_known, connect, receive, initialised, subscribed, timed_out, gone, drained, close_connection}
 use Rattle.model.specs.Batches.{is_subscription, subscription_at, is_member, is_job, take_from, job_at, without_job, abandon}
-use Rattle.model.specs.Publication.{publish_member, publish_members, publish, database_of}
+use Rattle.model.specs.Publication.{publish_member, publish, database_of}
 use Rattle.model.specs.Run.{happens, commit, database_now, after_all, run}
 use Rattle.model.specs.Laws.{Turn, turn_of, turns_in, turns_of_job, turns_at, turns_from, turns, is_turn_of, versions, version_of, EachPair, NeverReturns, BeginsAtItsSubscribe}
 use Rattle.model.proofs.Among.{Among, among_append, among_map, among_filter, among_any, found_among, all_among, all_from_among}
 use Rattle.model.proofs.Runs.{turns-append}
 use Rattle.model.proofs.Following.{IsOther, event_proceeds}
 use Rattle.model.proofs.EndedSubscriptions.{proceeds_longer}
-use Rattle.model.proofs.Apart.{IsKnown, HaveOtherNumbers, Sound, cohort_own}
-use Rattle.model.proofs.Publishing.{Publishing, members_publishing, left_job, others_free}
+use Rattle.model.proofs.Apart.{HaveOtherNumbers, Sound, cohort_own}
+use Rattle.model.proofs.Publishing.{members_publishing, left_job, others_free}
 use Rattle.model.proofs.SoundRuns.{event_sound, run_sound}
 
 -- How jobs and transactions go on: each job is an earlier one or of the version now, and transactions are added alone.
@@ -190,8 +189,8 @@ turns_are meta db job [] s h t a = absurd a
 turns_are meta db job (m ∷ ms) s h t a =
     let sub = subscription_at m.subscription s.subscriptions in
     elim (among_append t (turn_of meta db job.version s sub) (turns_in meta db job.version ms (publish_member meta db s sub).state) a) [
-      inl b ↦ turn_is meta db job m s sub refl (h m (inl refl)) t b
-    | inr b ↦ turns_are meta db job ms (publish_member meta db s sub).state (λ k c. h k (inr c)) t b
+      | inl b ↦ turn_is meta db job m s sub refl (h m (inl refl)) t b
+      | inr b ↦ turns_are meta db job ms (publish_member meta db s sub).state (λ k c. h k (inr c)) t b
     ]
 
 -- the job that an event publishes, if a subscription has a turn in it
@@ -242,8 +241,8 @@ low_from meta [] s number low w b version a = absurd a
 low_from meta (e ∷ h) s number low w b version a =
     let after = (happens meta s e).state in
     elim (among_append version (versions_at meta s e number) (versions_from meta after h number) (subst (λ (l : List ℕ). Among version l) (versions_append number (turns_at meta s e) (turns_from meta after h)) a)) [
-      inl c ↦ (let t = turned meta s e number version w c in let low_of = b.jobs t.job t.within t.member in let is = t.is in omega (arith, low_of, is))
-    | inr c ↦ low_from meta h after number low (event_sound meta s e w) (low_after s after number low (event_on meta s e) b) version c
+      | inl c ↦ (let t = turned meta s e number version w c in let low_of = b.jobs t.job t.within t.member in let is = t.is in omega (arith, low_of, is))
+      | inr c ↦ low_from meta h after number low (event_sound meta s e w) (low_after s after number low (event_on meta s e) b) version c
     ]
 
 -- pairs
@@ -286,10 +285,10 @@ rising meta [] s number w = tt
 rising meta (e ∷ h) s number w =
     let after = (happens meta s e).state in
     subst (λ (l : List ℕ). EachPair ◌≤◌ l) (sym (versions_append number (turns_at meta s e) (turns_from meta after h)))
-        (pairs_append ◌≤◌ (versions_at meta s e number) (versions_from meta after h number)
-            (pairs_from_among ◌≤◌ (versions_at meta s e number) (λ v u a b. same_job meta s e number w v u a b))
-            (rising meta h after number (event_sound meta s e w))
-            (λ v u a b. low_from meta h after number v (event_sound meta s e w) (turned_low meta s e number v w (turned meta s e number v w a)) u b))
+    (pairs_append ◌≤◌ (versions_at meta s e number) (versions_from meta after h number)
+    (pairs_from_among ◌≤◌ (versions_at meta s e number) (λ v u a b. same_job meta s e number w v u a b))
+    (rising meta h after number (event_sound meta s e w))
+    (λ v u a b. low_from meta h after number v (event_sound meta s e w) (turned_low meta s e number v w (turned meta s e number v w a)) u b))
 
 pub never_returns : (meta : Metadata) → NeverReturns meta
 never_returns meta h number = rising meta h opening number (run_sound meta [])
@@ -310,14 +309,14 @@ turned_known meta [] s number version w a = absurd a
 turned_known meta (e ∷ h) s number version w a =
     let after = (happens meta s e).state in
     elim (among_append version (versions_at meta s e number) (versions_from meta after h number) (subst (λ (l : List ℕ). Among version l) (versions_append number (turns_at meta s e) (turns_from meta after h)) a)) [
-      inl c ↦
-        (let t = turned meta s e number version w c in
-         let known = w.members_known t.job t.within number t.member in
-         let low = w.numbered.bounded known.0 known.1 in
-         let is = known.2 in
-         let longer = after_longer meta (e ∷ h) s in
-         omega (arith, low, is, longer))
-    | inr c ↦ turned_known meta h after number version (event_sound meta s e w) c
+      | inl c ↦
+          (let t = turned meta s e number version w c in
+          let known = w.members_known t.job t.within number t.member in
+          let low = w.numbered.bounded known.0 known.1 in
+          let is = known.2 in
+          let longer = after_longer meta (e ∷ h) s in
+          omega (arith, low, is, longer))
+      | inr c ↦ turned_known meta h after number version (event_sound meta s e w) c
     ]
 
 low_before : (s : State) → Sound s → (number : ℕ) → length s.subscriptions < number → IsLow s number (version_of s)
@@ -329,10 +328,10 @@ low_before s w number new = record {
 pub begins_at_its_subscribe : (meta : Metadata) → BeginsAtItsSubscribe meta
 begins_at_its_subscribe meta before after number new =
     all_from_among (λ (version : ℕ). version_of (run meta before) ≤ version) (versions meta (before ++ after) number)
-        (λ version a.
-            elim (among_append version (versions meta before number) (versions_from meta (run meta before) after number)
-                    (subst (λ (l : List ℕ). Among version l)
-                        (ap (λ (ts : List Turn). map (λ (t : Turn). t.version) (filter (is_turn_of number) ts)) (turns-append meta before after) ∙ versions_append number (turns meta before) (turns_from meta (run meta before) after)) a)) [
-              inl b ↦ (let known = turned_known meta before opening number version (run_sound meta []) b in absurd (omega (arith, known, new)))
-            | inr b ↦ low_from meta after (run meta before) number (version_of (run meta before)) (run_sound meta before) (low_before (run meta before) (run_sound meta before) number new) version b
-            ])
+    (λ version a.
+    elim (among_append version (versions meta before number) (versions_from meta (run meta before) after number)
+    (subst (λ (l : List ℕ). Among version l)
+    (ap (λ (ts : List Turn). map (λ (t : Turn). t.version) (filter (is_turn_of number) ts)) (turns-append meta before after) ∙ versions_append number (turns meta before) (turns_from meta (run meta before) after)) a)) [
+      | inl b ↦ (let known = turned_known meta before opening number version (run_sound meta []) b in absurd (omega (arith, known, new)))
+      | inr b ↦ low_from meta after (run meta before) number (version_of (run meta before)) (run_sound meta before) (low_before (run meta before) (run_sound meta before) number new) version b
+    ])

@@ -1,5 +1,5 @@
 -- Every turn tells the result of the subscription's own query on the snapshot of the job's version.
-use Rattle.std.proofs.Common.{◌≡◌, ◌⊎◌, inl, inr, ◌∙◌, sym, ap, refl, subst, ℕ, ◌+◌, ◌≤◌, nat_lt, Bool, true, false, if◌then◌else◌, Some, None, Option, List, [], ◌∷◌, ◌++◌, append-nil, append_assoc, length, map, take, arith}
+use Rattle.std.proofs.Common.{◌≡◌, inl, inr, ◌∙◌, sym, ap, refl, subst, ℕ, ◌≤◌, nat_lt, Bool, true, false, if◌then◌else◌, Some, None, Option, List, [], ◌∷◌, ◌++◌, append-nil, append_assoc, length, map, arith}
 use Rattle.std.proofs.lemmas.List.{take-append-le}
 use Rattle.data_model.specs.Rows.{Database, no_rows}
 use Rattle.data_model.specs.Transactions.{snapshot, database_after}
@@ -8,15 +8,15 @@ use Rattle.data_model.specs.declared.catalog.Catalog.{Catalog}
 use Rattle.role_model.specs.declared.metadata.Metadata.{Metadata}
 use Rattle.model.specs.Queries.{QueryKind, Live, Once, Stream, Result, result}
 use Rattle.model.specs.Messages.{next_text}
-use Rattle.model.specs.State.{State, Subscription, Member, Job, Event, Publish, Queued, Effect, nothing, opening}
+use Rattle.model.specs.State.{State, Subscription, Member, Job, Event, Publish, Effect, nothing, opening}
 use Rattle.model.specs.Batches.{is_job, subscription_at, job_at}
 use Rattle.model.specs.Publication.{is_new, publish_kind, publish_member, database_of, queue_next, with_subscription, remembers, moves_to}
 use Rattle.model.specs.Run.{happens, after_all, run}
-use Rattle.model.specs.Laws.{Turn, turn_of, turns_in, turns_of_job, turns_at, turns_from, turns, said, to_connection, own_result, IsOwnResult, TellsOwnResults, version_of}
+use Rattle.model.specs.Laws.{Turn, turn_of, turns_in, turns_of_job, turns_at, turns_from, turns, said, to_connection, IsOwnResult, TellsOwnResults, version_of}
 use Rattle.model.proofs.Among.{Among, among_append, found_among, all_from_among}
 use Rattle.model.proofs.Apart.{Sound}
 use Rattle.model.proofs.SoundRuns.{event_sound, run_sound}
-use Rattle.model.proofs.Order.{GoesOn, event_on, IsOfJob, turns_are}
+use Rattle.model.proofs.Order.{event_on, turns_are}
 
 if_said : (connection : ℕ) (b : Bool) (e f : Effect) (ts : List (List ℕ)) → e.queued ≡ map (to_connection connection) ts → f.queued ≡ [] → (if b then e else f).queued ≡ map (to_connection connection) (if b then ts else [])
 if_said connection true e f ts h i = h
@@ -52,8 +52,8 @@ own_turns meta at version (m ∷ ms) s t a =
     let sub = subscription_at m.subscription s.subscriptions in
     let after = (publish_member meta (at version) s sub).state in
     elim (among_append t (turn_of meta (at version) version s sub) (turns_in meta (at version) version ms after) a) [
-      inl b ↦ own_turn meta at version s sub t b
-    | inr b ↦ own_turns meta at version ms after t b
+      | inl b ↦ own_turn meta at version s sub t b
+      | inr b ↦ own_turns meta at version ms after t b
     ]
 
 -- a turn at an event: its own result by the transactions then, of which there are as many as its version or more
@@ -80,7 +80,7 @@ own_later : (meta : Metadata) (s u : State) (more : List (List TxChange)) → u.
 own_later meta s u more grows t own =
     own.0
     ∙ ap (λ (db : Database). map (to_connection t.subscription.connection) (said t.subscription.query.kind t.subscription (result meta t.subscription.query t.subscription.cursor db)))
-        (sym (snapshot_later meta.catalog s.transactions more t.version own.1) ∙ ap (λ (txs : List (List TxChange)). snapshot meta.catalog txs t.version) (sym grows))
+    (sym (snapshot_later meta.catalog s.transactions more t.version own.1) ∙ ap (λ (txs : List (List TxChange)). snapshot meta.catalog txs t.version) (sym grows))
 
 -- the transactions of a run begin with those before
 all_grow : (meta : Metadata) (h : List Event) (s : State) → (more : List (List TxChange)) × ((after_all meta s h).transactions ≡ s.transactions ++ more)
@@ -96,8 +96,8 @@ own_from meta (e ∷ h) s w t a =
     let after = (happens meta s e).state in
     let grown = all_grow meta (e ∷ h) s in
     elim (among_append t (turns_at meta s e) (turns_from meta after h) a) [
-      inl b ↦ own_later meta s (after_all meta s (e ∷ h)) grown.0 grown.1 t (own_at meta s e w t b)
-    | inr b ↦ own_from meta h after (event_sound meta s e w) t b
+      | inl b ↦ own_later meta s (after_all meta s (e ∷ h)) grown.0 grown.1 t (own_at meta s e w t b)
+      | inr b ↦ own_from meta h after (event_sound meta s e w) t b
     ]
 
 pub tells_own_results : (meta : Metadata) → TellsOwnResults meta

@@ -1,6 +1,5 @@
 -- A publication keeps jobs apart: it moves members of its own job alone, and that job closes.
-use Rattle.std.proofs.Common.{◌≡◌, ◌⊎◌, inl, inr, ◌∙◌, sym, ap, refl, subst, ℕ, ◌==◌, nat_lt, Bool, true, false, not, ◌&&◌, if◌then◌else◌, Some, None, Option, List, [], ◌∷◌, ◌++◌, append-nil, length, map, filter, arith}
-use Rattle.std.specs.Bool.{⊤}
+use Rattle.std.proofs.Common.{◌≡◌, ◌⊎◌, inl, inr, ◌∙◌, sym, ap, refl, subst, ℕ, ◌==◌, nat_lt, Bool, true, false, not, ◌&&◌, if◌then◌else◌, Some, None, Option, List, [], ◌∷◌, append-nil, length, map, arith}
 use Rattle.std.specs.List.{list_any}
 use Rattle.std.proofs.lemmas.Bool.{eqb-true, eq-eqb, eqb-false, true≢false, not-true, cases_Bool}
 use Rattle.scalar_val.specs.declared.val.Val.{Val}
@@ -9,15 +8,15 @@ use Rattle.data_model.specs.declared.transaction.TxChange.{TxChange}
 use Rattle.role_model.specs.declared.metadata.Metadata.{Metadata}
 use Rattle.model.specs.Queries.{QueryKind, Live, Once, Stream, Result, result}
 use Rattle.model.specs.State.{State, Subscription, Member, Job, Effect, nothing}
-use Rattle.model.specs.Connections.{ended_if, end_where}
+use Rattle.model.specs.Connections.{ended_if}
 use Rattle.model.specs.Batches.{is_subscription, subscription_at, is_member, is_due, is_job, job_at, without_job}
-use Rattle.model.specs.Publication.{at_subscription, remembers, moves_to, is_new, publish_live, publish_stream, publish_kind, publish_member, publish_members, publish, database_of, queue_next, with_subscription}
-use Rattle.model.specs.Laws.{EachPair, version_of}
+use Rattle.model.specs.Publication.{at_subscription, remembers, moves_to, is_new, publish_kind, publish_member, publish_members, publish, database_of, queue_next, with_subscription}
+use Rattle.model.specs.Laws.{EachPair}
 use Rattle.model.proofs.Tests.{map_map, map_same}
-use Rattle.model.proofs.Among.{Among, among_map, among_filter, among_any, found_among, not_true, pairs_filter}
-use Rattle.model.proofs.Following.{Alike, Unmoved, same_alike, then_alike, at_alike, remembers_alike, moves_alike, ended_alike, ended_unmoved}
+use Rattle.model.proofs.Among.{Among, among_filter, among_any, found_among, not_true, pairs_filter}
+use Rattle.model.proofs.Following.{Alike, same_alike, then_alike, at_alike, remembers_alike, moves_alike, ended_alike, ended_unmoved}
 use Rattle.model.proofs.Apart.{HaveOtherNumbers, Sound, busy_by, cohort_own}
-use Rattle.model.proofs.Moves.{Moves, moves_sound, DueLive, sound_live, due_live_mapped, due_live_ended, due_without, same_due, among_mapped}
+use Rattle.model.proofs.Moves.{Moves, moves_sound, DueLive, sound_live, due_live_mapped, due_live_ended, same_due, among_mapped}
 
 -- from one turn to a later one in the publication of a job
 pub record Publishing (job : Job) (s t : State) : Type 0 where
@@ -100,8 +99,8 @@ moving job s sub cursor payload member = record {
   subs = refl;
   moved = λ x.
       elim (cases_Bool (x.number == sub.number)) [
-        inl same ↦ inr (ap (λ (n : ℕ). is_member n job) (eqb-true x.number sub.number same) ∙ member)
-      | inr other ↦ inl (kept_cursor (moves_to cursor) (x.number == sub.number) x other)
+        | inl same ↦ inr (ap (λ (n : ℕ). is_member n job) (eqb-true x.number sub.number same) ∙ member)
+        | inr other ↦ inl (kept_cursor (moves_to cursor) (x.number == sub.number) x other)
       ];
   due_in = λ number a. a;
   due_live = λ h. due_live_mapped (at_subscription sub.number (moves_to cursor)) (at_alike sub.number (moves_to cursor) (moves_alike cursor)) (λ x. same_live (moves_to cursor) (x.number == sub.number) x refl) s.subscriptions s.due h;
@@ -134,7 +133,7 @@ member_publishing meta db job m s (Some sub) at a =
     let number = eqb-true sub.number m.subscription passes in
     let member : is_member sub.number job ≡ true = among_any (λ (k : Member). k.subscription == sub.number) m job.members a (eq-eqb m.subscription sub.number (sym number)) in
     if_publishing job s sub.live (publish_kind sub.query.kind sub (result meta sub.query sub.cursor db) s) (nothing s)
-        (kind_publishing job sub.query.kind sub (result meta sub.query sub.cursor db) s member) (publishing_same job s)
+    (kind_publishing job sub.query.kind sub (result meta sub.query sub.cursor db) s member) (publishing_same job s)
 
 pub members_publishing : (meta : Metadata) (db : Database) (job : Job) (ms : List Member) (s : State) → ((m : Member) → Among m ms → Among m job.members) → Publishing job s (publish_members meta db ms s).state
 members_publishing meta db job [] s h = publishing_same job s
@@ -152,11 +151,12 @@ pub others_free : (s : State) → Sound s → (number : ℕ) (job : Job) → job
     ((other : Job) → Among other (without_job number s.jobs) → is_member x.number other ≡ false) × (is_due s.due x ≡ false)
 others_free s w number job at x a h =
     let found = found_among (is_job number) s.jobs job at in
-    let is = eqb-true job.number number found.1 in
-    ((λ other b.
-        let left = left_job number s.jobs other b in
-        not_true (is_member x.number other) (λ i. eqb-false other.number number left.1 (w.apart other job left.0 found.0 x x a a (cohort_own x) i h ∙ is))),
-     not_true (is_due s.due x) (λ d. true≢false (sym (busy_by s.subscriptions s.jobs x x job a found.0 (cohort_own x) h) ∙ (w.idle x a d).1)))
+    let is = eqb-true job.number number found.1 in (
+      (λ other b.
+          let left = left_job number s.jobs other b in
+          not_true (is_member x.number other) (λ i. eqb-false other.number number left.1 (w.apart other job left.0 found.0 x x a a (cohort_own x) i h ∙ is))),
+      not_true (is_due s.due x) (λ d. true≢false (sym (busy_by s.subscriptions s.jobs x x job a found.0 (cohort_own x) h) ∙ (w.idle x a d).1)),
+    )
 
 publish_moves : (meta : Metadata) (number : ℕ) (s : State) (job : Job) → Sound s → job_at number s.jobs ≡ Some job → Moves s (publish meta number s (Some job)).state
 publish_moves meta number s job w at =
@@ -175,8 +175,8 @@ publish_moves meta number s job w at =
           p.due_live (sound_live s w) (p.change x) (subst (λ (l : List Subscription). Among (p.change x) l) (sym p.subs) (among_mapped p.change x s.subscriptions a)) (same_due last.due (p.change x) x (p.alike.number x) ∙ d);
       moved = λ x a.
           elim (p.moved x) [
-            inl same ↦ inl same
-          | inr member ↦ (let free = others_free s w number job at x a member in inr ((λ other b. free.0 other (subst (λ (l : List Job). Among other (without_job number l)) p.jobs b)), free.1))
+            | inl same ↦ inl same
+            | inr member ↦ (let free = others_free s w number job at x a member in inr ((λ other b. free.0 other (subst (λ (l : List Job). Among other (without_job number l)) p.jobs b)), free.1))
           ];
       taken = p.taken;
       later = let same = ap (λ (l : List (List TxChange)). length l) p.transactions in omega (arith, same);

@@ -1,8 +1,7 @@
 -- To be of one cohort is an equivalence of subscriptions.
-use Rattle.std.proofs.Common.{◌≡◌, ◌∙◌, sym, ap, refl, ℕ, Bool, true, false, ◌&&◌, List, map}
+use Rattle.std.proofs.Common.{◌≡◌, ◌∙◌, ap, refl, Bool, true, ◌&&◌, map}
 use Rattle.std.specs.Cmp.{IsEquivalence}
 use Rattle.std.proofs.lemmas.Cmp.{nat_list_eq_equiv, lists_equiv, eq_by_cmp_equiv}
-use Rattle.scalar_val.specs.declared.val.Val.{Val}
 use Rattle.scalar_val.proofs.OrderLaws.{val_cmp-total}
 use Rattle.model.specs.Values.{same_text, same_value, same_values}
 use Rattle.model.specs.Queries.{Query, Word, QueryWord, SubscriptionWord, same_word, canonical, same_poller, same_binding}
@@ -47,18 +46,18 @@ values_equiv = eq_by_cmp_equiv val_cmp-total
 poller_equiv : IsEquivalence same_poller
 poller_equiv =
     by_both (λ (p q : Query). same_word p.word q.word && same_text p.role q.role) (λ (p q : Query). same_text (canonical p) (canonical q))
-        (by_both (λ (p q : Query). same_word p.word q.word) (λ (p q : Query). same_text p.role q.role)
-            (by_part same_word (λ (p : Query). p.word) words_equiv) (by_part same_text (λ (p : Query). p.role) nat_list_eq_equiv))
-        (by_part same_text canonical nat_list_eq_equiv)
+    (by_both (λ (p q : Query). same_word p.word q.word) (λ (p q : Query). same_text p.role q.role)
+    (by_part same_word (λ (p : Query). p.word) words_equiv) (by_part same_text (λ (p : Query). p.role) nat_list_eq_equiv))
+    (by_part same_text canonical nat_list_eq_equiv)
 
 binding_equiv : IsEquivalence same_binding
 binding_equiv =
     by_both (λ (p q : Query). same_values p.variables q.variables) (λ (p q : Query). same_values (map (λ s. s.value) p.session) (map (λ s. s.value) q.session))
-        (by_part same_values (λ (p : Query). p.variables) (lists_equiv values_equiv)) (by_part same_values (λ (p : Query). map (λ s. s.value) p.session) (lists_equiv values_equiv))
+    (by_part same_values (λ (p : Query). p.variables) (lists_equiv values_equiv)) (by_part same_values (λ (p : Query). map (λ s. s.value) p.session) (lists_equiv values_equiv))
 
 pub cohort_equiv : IsEquivalence are_of_one_cohort
 cohort_equiv =
     by_both (λ (a b : Subscription). same_poller a.query b.query && same_binding a.query b.query) (λ (a b : Subscription). same_value a.cursor b.cursor)
-        (by_both (λ (a b : Subscription). same_poller a.query b.query) (λ (a b : Subscription). same_binding a.query b.query)
-            (by_part same_poller (λ (a : Subscription). a.query) poller_equiv) (by_part same_binding (λ (a : Subscription). a.query) binding_equiv))
-        (by_part same_value (λ (a : Subscription). a.cursor) values_equiv)
+    (by_both (λ (a b : Subscription). same_poller a.query b.query) (λ (a b : Subscription). same_binding a.query b.query)
+    (by_part same_poller (λ (a : Subscription). a.query) poller_equiv) (by_part same_binding (λ (a : Subscription). a.query) binding_equiv))
+    (by_part same_value (λ (a : Subscription). a.cursor) values_equiv)

@@ -1,9 +1,7 @@
 -- Every event keeps jobs apart, so every run does.
-use Rattle.std.proofs.Common.{◌≡◌, ◌≢◌, ◌⊎◌, inl, inr, ◌∙◌, sym, ap, refl, subst, ℕ, ◌+◌, ◌≤◌, ◌==◌, Bool, true, false, if◌then◌else◌, Some, None, Option, List, [], ◌∷◌, ◌++◌, append-nil, length, length-append, map, arith, Result, Ok, Err}
-use Rattle.std.specs.Bool.{⊤}
-use Rattle.std.specs.Option.{is_some}
-use Rattle.std.specs.List.{list_any, find}
-use Rattle.std.proofs.lemmas.Bool.{eqb-true, eq-eqb, true≢false}
+use Rattle.std.proofs.Common.{◌≡◌, ◌∙◌, sym, ap, refl, subst, ℕ, ◌≤◌, Bool, true, false, if◌then◌else◌, Some, None, Option, List, [], ◌∷◌, append-nil, length-append, arith, Result, Ok, Err}
+use Rattle.std.specs.List.{list_any}
+use Rattle.std.proofs.lemmas.Bool.{eqb-true, eq-eqb}
 use Rattle.data_model.specs.Rows.{Database}
 use Rattle.data_model.specs.declared.transaction.TxChange.{TxChange}
 use Rattle.data_model.specs.declared.transaction.TxFault.{TxFault}
@@ -15,15 +13,13 @@ use Rattle.role_model.specs.Sessions.{identity_of}
 use Rattle.model.specs.Messages.{Message, Init, Subscribe, Complete, Ping, Pong, Bad, exists_reason}
 use Rattle.model.specs.Admission.{Admission, Admits, Refuses, Unread, admits}
 use Rattle.model.specs.State.{State, Phase, Fresh, Acknowledged, Closed, Connection, Subscription, Job, Event, Connect, Receive, Binary, Timeout, Gone, Commit, Tick, Take, Publish, Abandon, Drain, Report, Skip, Step, with_reply, Did, opening}
-use Rattle.model.specs.Connections.{end_where, connection_at, is_of, is_live_id, ended_if, on_known, connect, receive, initialised, subscribed, subscription_of, timed_out, gone, drained, close_connection}
-use Rattle.model.specs.Batches.{are_of_one_cohort, is_subscription, subscription_at, is_member, is_busy, is_due, take_from, job_at, abandon}
-use Rattle.model.specs.Publication.{publish}
+use Rattle.model.specs.Connections.{end_where, connection_at, is_of, is_live_id, on_known, connect, receive, initialised, subscribed, subscription_of, timed_out, gone, drained, close_connection}
+use Rattle.model.specs.Batches.{is_subscription, subscription_at, is_member, job_at}
 use Rattle.model.specs.Run.{happens, commit, database_now, after_all, run}
-use Rattle.model.specs.Laws.{EachPair, HaveNoCommonMember, HaveNoCommonCohort, IsIdle, BatchesStandApart, KeepsBatchesApart, version_of}
+use Rattle.model.specs.Laws.{HaveNoCommonMember, HaveNoCommonCohort, IsIdle, BatchesStandApart, KeepsBatchesApart, version_of}
 use Rattle.model.proofs.Among.{Among, not_true, all_from_among, pairs_then, found_among, among_found, some_of}
-use Rattle.model.proofs.Following.{IsNewer}
-use Rattle.model.proofs.Apart.{IsKnown, HaveOtherNumbers, AreNumbered, Sound, cohort_own, among_due}
-use Rattle.model.proofs.Moves.{Moves, moves_sound, still_moves, ending_moves}
+use Rattle.model.proofs.Apart.{HaveOtherNumbers, Sound, cohort_own, among_due}
+use Rattle.model.proofs.Moves.{moves_sound, still_moves, ending_moves}
 use Rattle.model.proofs.Publishing.{publish_sound}
 use Rattle.model.proofs.Taking.{tick_sound, take_sound, abandon_sound}
 
@@ -48,7 +44,7 @@ initialised_sound number s identity.Forbidden w = close_sound number s _ w
 subscribed_sound : (number : ℕ) (id : List ℕ) (s : State) (a : Admission) → Sound s → Sound (subscribed number id s a).state
 subscribed_sound number id s (Admits query cursor) w =
     moves_sound s (subscribed number id s (Admits query cursor)).state w
-        (still_moves s (subscribed number id s (Admits query cursor)).state w (subscription_of number id query cursor s ∷ []) (refl, refl) refl refl refl refl (omega arith))
+    (still_moves s (subscribed number id s (Admits query cursor)).state w (subscription_of number id query cursor s ∷ []) (refl, refl) refl refl refl refl (omega arith))
 subscribed_sound number id s (Refuses fault) w = linked_sound s _ w
 subscribed_sound number id s Unread w = w
 
@@ -134,9 +130,9 @@ run_sound meta h = after_sound meta h opening opening_sound
 no_member : (s : State) → Sound s → (i j : Job) → Among i s.jobs → Among j s.jobs → HaveOtherNumbers i j → HaveNoCommonMember i j
 no_member s w i j a b other number h =
     not_true (is_member number j) (λ g.
-        let known = w.members_known i a number h in
-        let is_of : (k : Job) → is_member number k ≡ true → is_member known.0.number k ≡ true = (λ k m. ap (λ (n : ℕ). is_member n k) known.2 ∙ m) in
-        other (w.apart i j a b known.0 known.0 known.1 known.1 (cohort_own known.0) (is_of i h) (is_of j g)))
+    let known = w.members_known i a number h in
+    let is_of : (k : Job) → is_member number k ≡ true → is_member known.0.number k ≡ true = (λ k m. ap (λ (n : ℕ). is_member n k) known.2 ∙ m) in
+    other (w.apart i j a b known.0 known.0 known.1 known.1 (cohort_own known.0) (is_of i h) (is_of j g)))
 
 no_cohort : (s : State) → Sound s → (i j : Job) → Among i s.jobs → Among j s.jobs → HaveOtherNumbers i j → HaveNoCommonCohort s.subscriptions i j
 no_cohort s w i j a b other =

@@ -1,15 +1,13 @@
 -- Ticks, takes and abandoned jobs keep jobs apart.
-use Rattle.std.proofs.Common.{◌≡◌, ◌≢◌, ◌⊎◌, inl, inr, ◌∙◌, sym, ap, refl, subst, ℕ, ◌+◌, ◌≤◌, ◌==◌, Bool, true, false, ◌&&◌, ◌||◌, not, cond, if◌then◌else◌, Some, None, Option, List, [], ◌∷◌, ◌++◌, length, map, filter, take, arith}
-use Rattle.std.specs.Bool.{⊤}
+use Rattle.std.proofs.Common.{◌≡◌, ◌⊎◌, inl, inr, ◌∙◌, sym, ap, refl, ℕ, ◌+◌, ◌==◌, Bool, true, false, ◌&&◌, ◌||◌, not, cond, if◌then◌else◌, Some, None, Option, List, [], ◌∷◌, ◌++◌, filter, arith}
 use Rattle.std.specs.Option.{is_some}
-use Rattle.std.specs.List.{list_any, find, filter_map, position_from, cons_option}
-use Rattle.std.proofs.lemmas.Bool.{eqb-true, eq-eqb, eqb-false, true≢false, not-true, cases_Bool}
+use Rattle.std.specs.List.{list_any, position_from, cons_option}
+use Rattle.std.proofs.lemmas.Bool.{eqb-true, eq-eqb, eqb-false, true≢false, not-true}
 use Rattle.role_model.specs.declared.metadata.Metadata.{Metadata}
 use Rattle.model.specs.State.{State, Subscription, Member, Job}
-use Rattle.model.specs.Batches.{are_polled_together, are_of_one_cohort, is_member, is_busy, numbers, idle, is_due, first_of_each, batch, member_at, member_of, members_of, next_job, taken_with, take_from, tick, is_job, job_at, without_job, abandon}
-use Rattle.model.specs.Laws.{EachPair, version_of}
-use Rattle.model.proofs.Among.{Among, among_append, among_map, among_filter, among_take, or_true, and_true, and_both, not_true, any_among, among_any, found_among, pairs_filter, pairs_push}
-use Rattle.model.proofs.Apart.{IsKnown, HaveOtherNumbers, AreNumbered, Sound, Occupied, cohort_own, cohort_symm, cohort_then, busy_by, occupied, not_busy, due_among, among_due, due_apart}
+use Rattle.model.specs.Batches.{are_polled_together, are_of_one_cohort, is_member, is_busy, numbers, is_due, first_of_each, batch, member_at, members_of, next_job, taken_with, take_from, tick, is_job, job_at, without_job, abandon}
+use Rattle.model.proofs.Among.{Among, among_append, among_map, among_filter, among_take, or_true, and_true, and_both, any_among, among_any, found_among, pairs_filter, pairs_push}
+use Rattle.model.proofs.Apart.{IsKnown, HaveOtherNumbers, Sound, cohort_symm, cohort_then, not_busy, due_among, among_due, due_apart}
 
 -- the subscription of a number in a list of numbers of subscriptions
 numbered_among : (p : Subscription → Bool) (subs : List Subscription) (number : ℕ) → Among number (numbers (filter p subs)) → (y : Subscription) × Among y subs × (p y ≡ true) × (number ≡ y.number)
@@ -51,20 +49,21 @@ abandoned number s job w at =
     let found = found_among (is_job number) s.jobs job at in
     let is = eqb-true job.number number found.1 in
     let left : (other : Job) → Among other (without_job number s.jobs) → Among other s.jobs × ((other.number == number) ≡ false) =
-        (λ other a. (let r = among_filter (λ j. not (is_job number j)) other s.jobs a in (r.0, not-true (is_job number other) r.1))) in
+    (λ other a. (let r = among_filter (λ j. not (is_job number j)) other s.jobs a in (r.0, not-true (is_job number other) r.1))) in
     record {
       numbered = w.numbered;
       members_known = λ other a. w.members_known other (left other a).0;
       due_known = λ n a. known_numbers p s.subscriptions n a;
       idle = λ x a d.
           elim (or_true (is_due s.due x) (x.live && is_member x.number job) (due_of s w p x a d)) [
-            inl due ↦
-              ((w.idle x a due).0, not_busy s.subscriptions (without_job number s.jobs) x (λ o. due_apart s w x o.other o.job a due o.other_in (left o.job o.job_in).0 o.cohort o.member))
-          | inr both ↦
-              (let parts = and_true x.live (is_member x.number job) both in
-               (parts.0,
-                not_busy s.subscriptions (without_job number s.jobs) x
-                    (λ o. eqb-false o.job.number number (left o.job o.job_in).1 (sym (w.apart job o.job found.0 (left o.job o.job_in).0 x o.other a o.other_in o.cohort parts.1 o.member) ∙ is))))
+            | inl due ↦
+                ((w.idle x a due).0, not_busy s.subscriptions (without_job number s.jobs) x (λ o. due_apart s w x o.other o.job a due o.other_in (left o.job o.job_in).0 o.cohort o.member))
+            | inr both ↦
+                (let parts = and_true x.live (is_member x.number job) both in (
+                  parts.0,
+                  not_busy s.subscriptions (without_job number s.jobs) x
+                      (λ o. eqb-false o.job.number number (left o.job o.job_in).1 (sym (w.apart job o.job found.0 (left o.job o.job_in).0 x o.other a o.other_in o.cohort parts.1 o.member) ∙ is)),
+                ))
           ];
       apart = λ i j k l. w.apart i j (left i k).0 (left j l).0;
       distinct = pairs_filter HaveOtherNumbers (λ j. not (is_job number j)) s.jobs w.distinct;
@@ -179,13 +178,13 @@ apart_taken : (s : State) → Sound s → (cohorts : List Subscription) → AreD
 apart_taken s w cohorts due i j k l a b c d h e f =
     let new = next_job s (members_of cohorts s.subscriptions) in
     elim (job_cases s new i k) [
-      inl p ↦ elim (job_cases s new j l) [
-        inl q ↦ w.apart i j p q a b c d h e f
-      | inr q ↦ absurd (joiner_apart s w cohorts due b a i (joined_by s w cohorts b d (is_member_of b.number j new q f)) c p (cohort_symm a b h) e)
+      | inl p ↦ elim (job_cases s new j l) [
+        | inl q ↦ w.apart i j p q a b c d h e f
+        | inr q ↦ absurd (joiner_apart s w cohorts due b a i (joined_by s w cohorts b d (is_member_of b.number j new q f)) c p (cohort_symm a b h) e)
       ]
-    | inr p ↦ elim (job_cases s new j l) [
-        inl q ↦ absurd (joiner_apart s w cohorts due a b j (joined_by s w cohorts a c (is_member_of a.number i new p e)) d q h f)
-      | inr q ↦ ap (λ (m : Job). m.number) (p ∙ sym q)
+      | inr p ↦ elim (job_cases s new j l) [
+        | inl q ↦ absurd (joiner_apart s w cohorts due a b j (joined_by s w cohorts a c (is_member_of a.number i new p e)) d q h f)
+        | inr q ↦ ap (λ (m : Job). m.number) (p ∙ sym q)
       ]
     ]
 
@@ -196,15 +195,16 @@ idle_taken s w cohorts x a d =
     let new = next_job s (members_of cohorts s.subscriptions) in
     let r = among_filter (λ n. not (is_member n new)) x.number s.due (due_among (filter (λ n. not (is_member n new)) s.due) x d) in
     let due = among_due s.due x r.0 in
-    let live = (w.idle x a due).0 in
-    (live,
-     not_busy s.subscriptions (s.jobs ++ new ∷ []) x
-         (λ o. elim (job_cases s new o.job o.job_in) [
-             inl p ↦ due_apart s w x o.other o.job a due o.other_in p o.cohort o.member
-           | inr p ↦ true≢false
-               (sym (joiner_member s cohorts x a (joins_too cohorts x o.other live o.cohort (joined_by s w cohorts o.other o.other_in (is_member_of o.other.number o.job new p o.member))))
+    let live = (w.idle x a due).0 in (
+      live,
+      not_busy s.subscriptions (s.jobs ++ new ∷ []) x
+          (λ o. elim (job_cases s new o.job o.job_in) [
+            | inl p ↦ due_apart s w x o.other o.job a due o.other_in p o.cohort o.member
+            | inr p ↦ true≢false
+                (sym (joiner_member s cohorts x a (joins_too cohorts x o.other live o.cohort (joined_by s w cohorts o.other o.other_in (is_member_of o.other.number o.job new p o.member))))
                 ∙ not-true (is_member x.number new) r.1)
-           ]))
+          ]),
+    )
 
 taken_sound : (s : State) → Sound s → (cohorts : List Subscription) → AreDue s cohorts → Sound (taken_with s (next_job s (members_of cohorts s.subscriptions))).state
 taken_sound s w cohorts due =

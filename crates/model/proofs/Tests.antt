@@ -1,5 +1,5 @@
 -- Tests on the items of a list.
-use Rattle.std.proofs.Common.{◌≡◌, ◌∙◌, sym, ap, refl, ℕ, Bool, true, false, ◌&&◌, ◌||◌, not, cond, Some, None, Option, List, [], ◌∷◌, ◌++◌, map, filter, append_assoc}
+use Rattle.std.proofs.Common.{◌≡◌, ◌∙◌, sym, ap, refl, Bool, true, false, ◌&&◌, ◌||◌, cond, Some, Option, List, [], ◌∷◌, ◌++◌, map}
 use Rattle.std.specs.List.{list_any, find, AllByRecursion}
 use Rattle.std.specs.Option.{IfSome}
 

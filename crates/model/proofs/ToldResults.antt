@@ -1,5 +1,5 @@
 -- Each `next` text of a run is queued at a turn.
-use Rattle.std.proofs.Common.{◌≡◌, ◌∙◌, sym, ap, refl, ℕ, Bool, true, false, if◌then◌else◌, Some, None, Option, List, [], ◌∷◌, ◌++◌, append-nil, filter, Result, Ok, Err}
+use Rattle.std.proofs.Common.{◌≡◌, ◌∙◌, sym, ap, refl, ℕ, Bool, true, false, if◌then◌else◌, Some, None, Option, List, [], ◌∷◌, ◌++◌, append-nil, Result, Ok, Err}
 use Rattle.std.specs.List.{flat_map, list_any}
 use Rattle.std.proofs.lemmas.List.Elements.{filter-append}
 use Rattle.std.proofs.lemmas.Grind.{flat_map-append}
@@ -8,7 +8,6 @@ use Rattle.data_model.specs.declared.transaction.TxChange.{TxChange}
 use Rattle.data_model.specs.declared.transaction.TxFault.{TxFault}
 use Rattle.data_model.specs.Transactions.{apply}
 use Rattle.role_model.specs.declared.metadata.Metadata.{Metadata}
-use Rattle.role_model.specs.declared.session.Session.{Session}
 use Rattle.role_model.specs.declared.session.Identity.{Identity}
 use Rattle.role_model.specs.declared.session.Identity.TheVariants as identity
 use Rattle.role_model.specs.Sessions.{identity_of}
@@ -16,8 +15,8 @@ use Rattle.model.specs.Queries.{result}
 use Rattle.model.specs.Messages.{Message, Init, Subscribe, Complete, Ping, Pong, Bad, exists_reason}
 use Rattle.model.specs.Admission.{Admission, Admits, Refuses, Unread, admits}
 use Rattle.model.specs.State.{State, Phase, Fresh, Acknowledged, Closed, Connection, Subscription, Member, Job, Event, Connect, Receive, Binary, Timeout, Gone, Commit, Tick, Take, Publish, Abandon, Drain, Report, Skip, Queued, Effect, Step, with_reply, nothing, Did, opening}
-use Rattle.model.specs.Connections.{connection_at, is_live_id, on_known, connect, receive, receive_fresh, receive_acknowledged, initialised, subscribe, subscribed, timed_out, gone, drained, close_connection}
-use Rattle.model.specs.Batches.{subscription_at, is_due, take_from, abandon, job_at}
+use Rattle.model.specs.Connections.{connection_at, is_live_id, on_known, connect, receive, initialised, subscribed, timed_out, gone, drained, close_connection}
+use Rattle.model.specs.Batches.{subscription_at, take_from, abandon, job_at}
 use Rattle.model.specs.Publication.{publish_kind, publish_member, publish_members, publish, database_of}
 use Rattle.model.specs.Run.{happens, commit, database_now, steps_from}
 use Rattle.model.specs.Laws.{Turn, turn_of, turns_in, turns_of_job, turns_at, turns_from, nexts, is_next, ResultsAreOfTurns}

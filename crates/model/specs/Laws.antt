@@ -195,10 +195,10 @@ AdmitsSubscribes meta =
     (h : List Event) (connection : Connection) (session : Session) (id : List ℕ) (request : Request) →
     connection_at connection.number (run meta h) ≡ Some connection → connection.phase ≡ Acknowledged session → list_any (is_live_id connection.number id) (run meta h).subscriptions ≡ false →
     ((query : Query) (cursor : Val) → admits meta session request ≡ Admits query cursor →
-        subscribes meta (run meta h) connection.number id request
-        ≡ record (run meta h) { subscriptions = (run meta h).subscriptions ++ subscription_of connection.number id query cursor (run meta h) ∷ [] })
+    subscribes meta (run meta h) connection.number id request
+    ≡ record (run meta h) { subscriptions = (run meta h).subscriptions ++ subscription_of connection.number id query cursor (run meta h) ∷ [] })
     × (((query : Query) (cursor : Val) → admits meta session request ≢ Admits query cursor) →
-        length (subscribes meta (run meta h) connection.number id request).subscriptions ≡ length (run meta h).subscriptions)
+    length (subscribes meta (run meta h) connection.number id request).subscriptions ≡ length (run meta h).subscriptions)
 
 -- Batches
 
