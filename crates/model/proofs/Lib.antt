@@ -18,3 +18,4 @@ pub mod Filters
 pub mod WorkedReaders
 pub mod OwnResults
 pub mod WorkedLaws
+pub mod LinkedRuns

@@ -11,7 +11,7 @@ use Rattle.data_model.specs.Transactions.{snapshot}
 use Rattle.model.specs.Queries.{Query, QueryKind, Live, Once, Stream, Result, result}
 use Rattle.model.specs.Messages.{Subscribe, Request, next_text, complete_text}
 use Rattle.model.specs.Admission.{Admits, admits}
-use Rattle.model.specs.State.{State, Acknowledged, Connection, Subscription, Member, Job, Event, Receive, Publish, Gone, Queued, opening}
+use Rattle.model.specs.State.{State, Phase, Fresh, Acknowledged, Closed, Connection, Subscription, Member, Job, Event, Receive, Publish, Gone, Queued, opening}
 use Rattle.model.specs.Connections.{connection_at, is_live_id, subscription_of}
 use Rattle.model.specs.Batches.{are_of_one_cohort, subscription_at, is_member, is_busy, job_at}
 use Rattle.model.specs.Publication.{is_new, publish_member, database_of}
@@ -182,6 +182,21 @@ GoneEnds meta =
     (h : List Event) (connection : ℕ) → is_some (connection_at connection (run meta h)) ≡ true →
     HasNoneLive (happens meta (run meta h) (Gone connection)).state connection
     × (is_some (connection_at connection (happens meta (run meta h) (Gone connection)).state) ≡ false)
+
+abbrev pub is_acknowledged_phase : Phase → Bool
+is_acknowledged_phase Fresh = false
+is_acknowledged_phase (Acknowledged session) = true
+is_acknowledged_phase (Closed reason) = false
+
+-- the connection is known, and acknowledged
+abbrev pub is_acknowledged : Option Connection → Bool
+is_acknowledged (Some c) = is_acknowledged_phase c.phase
+is_acknowledged None = false
+
+-- after every event each live subscription is of a connection that is known, acknowledged and not closed
+abbrev pub LiveAreAcknowledged : Metadata → Type 0
+LiveAreAcknowledged meta =
+    (h : List Event) → AllByRecursion (λ sub. sub.live ≡ true → is_acknowledged (connection_at sub.connection (run meta h)) ≡ true) (run meta h).subscriptions
 
 -- Admission
 

@@ -1,4 +1,4 @@
-ghost use Rattle.model.specs.Laws.{ResultsAreOfTurns, TellsOwnResults, NeverReturns, BeginsAtItsSubscribe, TellsChanges, EndsForGood, AnswersOnce, ClosesEnd, GoneEnds, AdmitsSubscribes, KeepsBatchesApart};
+ghost use Rattle.model.specs.Laws.{ResultsAreOfTurns, TellsOwnResults, NeverReturns, BeginsAtItsSubscribe, TellsChanges, EndsForGood, AnswersOnce, ClosesEnd, GoneEnds, LiveAreAcknowledged, AdmitsSubscribes, KeepsBatchesApart};
 
 use role_model::Metadata;
 
@@ -14,7 +14,8 @@ use role_model::Metadata;
 /// - `change`: two consecutive texts that a live query is told differ.
 /// - `completion`, `once`: a subscription has no turn after its end, and the event that answers a query which is answered
 ///   once completes and ends it.
-/// - `closes`, `gone`: a close or the end of a connection ends its subscriptions.
+/// - `closes`, `gone`, `live`: a close or the end of a connection ends its subscriptions, and each live one is of an
+///   acknowledged connection.
 /// - `admission`: a subscribe on an acknowledged connection, with an id that isn't live there, becomes a live subscription
 ///   exactly where its request is admitted.
 /// - `batches`: a subscription is a member of at most one open job, members of one cohort are in the same one, and who is
@@ -29,6 +30,7 @@ pub fn run_laws()
     ensures once { (meta : Metadata) → AnswersOnce meta }
     ensures closes { (meta : Metadata) → ClosesEnd meta }
     ensures gone { (meta : Metadata) → GoneEnds meta }
+    ensures live { (meta : Metadata) → LiveAreAcknowledged meta }
     ensures admission { (meta : Metadata) → AdmitsSubscribes meta }
     ensures batches { (meta : Metadata) → KeepsBatchesApart meta }
 {}

@@ -1,6 +1,7 @@
 use Rattle.model.proofs.AdmittedSubscribes.{admits_subscribes}
 use Rattle.model.proofs.Changes.{tells_changes}
 use Rattle.model.proofs.EndedSubscriptions.{ends_for_good, answers_once, closes_end, gone_ends}
+use Rattle.model.proofs.LinkedRuns.{live_are_acknowledged}
 use Rattle.model.proofs.Order.{never_returns, begins_at_its_subscribe}
 use Rattle.model.proofs.OwnResults.{tells_own_results}
 use Rattle.model.proofs.SoundRuns.{keeps_batches_apart}
@@ -33,6 +34,9 @@ returns-clause-closes c = closes_end
 
 pub returns-clause-gone : goal.returns-clause-gone
 returns-clause-gone c = gone_ends
+
+pub returns-clause-live : goal.returns-clause-live
+returns-clause-live c = live_are_acknowledged
 
 pub returns-clause-admission : goal.returns-clause-admission
 returns-clause-admission c = admits_subscribes
