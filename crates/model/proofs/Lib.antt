@@ -19,3 +19,4 @@ pub mod WorkedReaders
 pub mod OwnResults
 pub mod WorkedLaws
 pub mod LinkedRuns
+pub mod Cursors

@@ -1,16 +1,14 @@
 -- Each live subscription is of an acknowledged connection.
-use Rattle.std.proofs.Common.{◌≡◌, ◌⊎◌, inl, inr, ◌∙◌, sym, ap, refl, subst, ℕ, ◌==◌, nat_lt, Bool, true, false, ◌&&◌, not, cond, if◌then◌else◌, Some, None, Option, List, [], ◌∷◌, ◌++◌, map, filter, Result, Ok, Err}
-use Rattle.std.specs.Bool.{⊤}
+use Rattle.std.proofs.Common.{◌≡◌, inl, inr, ◌∙◌, sym, ap, refl, ℕ, ◌==◌, nat_lt, Bool, true, false, not, cond, if◌then◌else◌, Some, None, Option, List, [], ◌∷◌, ◌++◌, map, filter, Result, Ok, Err}
 use Rattle.std.specs.Option.{option_map, option_or}
 use Rattle.std.specs.List.{list_any, find}
-use Rattle.std.proofs.lemmas.Bool.{eqb-true, eq-eqb, eqb-false, ne_eqb}
+use Rattle.std.proofs.lemmas.Bool.{eqb-true, eqb-false, ne_eqb}
 use Rattle.std.proofs.lemmas.List.Folds.{find-append}
 use Rattle.data_model.specs.Rows.{Database}
 use Rattle.data_model.specs.declared.transaction.TxChange.{TxChange}
 use Rattle.data_model.specs.declared.transaction.TxFault.{TxFault}
 use Rattle.data_model.specs.Transactions.{apply}
 use Rattle.role_model.specs.declared.metadata.Metadata.{Metadata}
-use Rattle.role_model.specs.declared.session.Session.{Session}
 use Rattle.role_model.specs.declared.session.Identity.{Identity}
 use Rattle.role_model.specs.declared.session.Identity.TheVariants as identity
 use Rattle.role_model.specs.Sessions.{identity_of}
@@ -18,13 +16,13 @@ use Rattle.model.specs.Queries.{QueryKind, Live, Once, Stream, Result as Answer,
 use Rattle.model.specs.Messages.{Message, Init, Subscribe, Complete, Ping, Pong, Bad, CloseReason, exists_reason, next_text}
 use Rattle.model.specs.Admission.{Admission, Admits, Refuses, Unread, admits}
 use Rattle.model.specs.State.{State, Phase, Fresh, Acknowledged, Closed, Connection, Subscription, Member, Job, Event, Connect, Receive, Binary, Timeout, Gone, Commit, Tick, Take, Publish, Abandon, Drain, Report, Skip, Effect, Step, with_reply, nothing, Did, opening}
-use Rattle.model.specs.Connections.{connection_at, is_connection, at_connection, with_connection, queues, closes, acknowledges, leaves, is_of, is_live_id, ended_if, end_where, on_known, connect, receive, initialised, subscribed, subscription_of, timed_out, gone, drained, close_connection}
+use Rattle.model.specs.Connections.{connection_at, is_connection, at_connection, queues, closes, acknowledges, leaves, is_of, is_live_id, ended_if, on_known, connect, receive, initialised, subscribed, subscription_of, timed_out, gone, drained, close_connection}
 use Rattle.model.specs.Batches.{is_subscription, subscription_at, take_from, job_at, abandon}
 use Rattle.model.specs.Publication.{is_new, publish_kind, publish_member, publish_members, publish, database_of, queue_next, with_subscription, remembers, moves_to, at_subscription}
 use Rattle.model.specs.Run.{happens, commit, database_now, after_all, run}
 use Rattle.model.specs.Laws.{is_acknowledged, is_acknowledged_phase, LiveAreAcknowledged}
 use Rattle.model.proofs.Among.{Among, among_append, among_map, found_among, all_from_among}
-use Rattle.model.proofs.Following.{Alike, Follows, at_alike, remembers_alike, moves_alike, ended_alike, follows_by}
+use Rattle.model.proofs.Following.{Alike, at_alike, remembers_alike, moves_alike, ended_alike}
 
 -- live subscriptions over some connections
 abbrev Linked : List Subscription → List Connection → Type 0
@@ -221,16 +219,16 @@ if_linked false e f h i = i
 kind_linked : (k : QueryKind) (sub : Subscription) (r : Answer) (s : State) → LinkedIn s → LinkedIn (publish_kind k sub r s).state
 kind_linked Live sub r s h =
     if_linked (is_new sub.last r.text) (queue_next sub r.text (with_subscription sub.number (remembers r.text) s)) (nothing s)
-        (queued_on sub.connection _ (map (at_subscription sub.number (remembers r.text)) s.subscriptions) s.connections
-            (followed (at_subscription sub.number (remembers r.text)) (at_alike sub.number (remembers r.text) (remembers_alike r.text)) s.subscriptions s.connections h)) h
+    (queued_on sub.connection _ (map (at_subscription sub.number (remembers r.text)) s.subscriptions) s.connections
+    (followed (at_subscription sub.number (remembers r.text)) (at_alike sub.number (remembers r.text) (remembers_alike r.text)) s.subscriptions s.connections h)) h
 kind_linked Once sub r s h =
     queued_on sub.connection _ (map (ended_if (is_subscription sub.number)) s.subscriptions) (map (at_connection sub.connection (queues (next_text sub.id r.text))) s.connections)
-        (followed (ended_if (is_subscription sub.number)) (ended_alike (is_subscription sub.number)) s.subscriptions (map (at_connection sub.connection (queues (next_text sub.id r.text))) s.connections)
-            (queued_on sub.connection _ s.subscriptions s.connections h))
+    (followed (ended_if (is_subscription sub.number)) (ended_alike (is_subscription sub.number)) s.subscriptions (map (at_connection sub.connection (queues (next_text sub.id r.text))) s.connections)
+    (queued_on sub.connection _ s.subscriptions s.connections h))
 kind_linked Stream sub r s h =
     if_linked (nat_lt 0 r.rows) (queue_next sub r.text (with_subscription sub.number (moves_to r.last) s)) (nothing s)
-        (queued_on sub.connection _ (map (at_subscription sub.number (moves_to r.last)) s.subscriptions) s.connections
-            (followed (at_subscription sub.number (moves_to r.last)) (at_alike sub.number (moves_to r.last) (moves_alike r.last)) s.subscriptions s.connections h)) h
+    (queued_on sub.connection _ (map (at_subscription sub.number (moves_to r.last)) s.subscriptions) s.connections
+    (followed (at_subscription sub.number (moves_to r.last)) (at_alike sub.number (moves_to r.last) (moves_alike r.last)) s.subscriptions s.connections h)) h
 
 member_linked : (meta : Metadata) (db : Database) (s : State) (o : Option Subscription) → LinkedIn s → LinkedIn (publish_member meta db s o).state
 member_linked meta db s (Some sub) h = let r = result meta sub.query sub.cursor db in if_linked sub.live (publish_kind sub.query.kind sub r s) (nothing s) (kind_linked sub.query.kind sub r s h) h

@@ -34,7 +34,7 @@ pub record GoesOn (s t : State) : Type 0 where
   pub more : List (List TxChange)
   pub grows : t.transactions ≡ s.transactions ++ more
 
-later_of : (s t : State) → GoesOn s t → version_of s ≤ version_of t
+pub later_of : (s t : State) → GoesOn s t → version_of s ≤ version_of t
 later_of s t g =
     let whole = ap (λ (l : List (List TxChange)). length l) g.grows in
     let both = length-append s.transactions g.more in

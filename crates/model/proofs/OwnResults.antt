@@ -57,7 +57,7 @@ own_turns meta at version (m ∷ ms) s t a =
     ]
 
 -- a turn at an event: its own result by the transactions then, of which there are as many as its version or more
-abbrev IsOwnNow : Metadata → State → Turn → Type 0
+abbrev pub IsOwnNow : Metadata → State → Turn → Type 0
 IsOwnNow meta s t = IsOwnResult meta s t × (t.version ≤ version_of s)
 
 own_job : (meta : Metadata) (number : ℕ) (s : State) (o : Option Job) → Sound s → job_at number s.jobs ≡ o → (t : Turn) → Among t (turns_of_job meta s o) → IsOwnNow meta s t
@@ -68,12 +68,12 @@ own_job meta number s (Some job) w at t a =
     (own_turns meta (snapshot meta.catalog s.transactions) job.version job.members s t a, omega (arith, version, low))
 own_job meta number s None w at t a = absurd a
 
-own_at : (meta : Metadata) (s : State) (e : Event) → Sound s → (t : Turn) → Among t (turns_at meta s e) → IsOwnNow meta s t
+pub own_at : (meta : Metadata) (s : State) (e : Event) → Sound s → (t : Turn) → Among t (turns_at meta s e) → IsOwnNow meta s t
 own_at meta s (Publish job) w t a = own_job meta job s (job_at job s.jobs) w refl t a
 own_at meta s _ w t a = absurd a
 
 -- later transactions leave earlier snapshots
-snapshot_later : (catalog : Catalog) (txs more : List (List TxChange)) (version : ℕ) → version ≤ length txs → snapshot catalog (txs ++ more) version ≡ snapshot catalog txs version
+pub snapshot_later : (catalog : Catalog) (txs more : List (List TxChange)) (version : ℕ) → version ≤ length txs → snapshot catalog (txs ++ more) version ≡ snapshot catalog txs version
 snapshot_later catalog txs more version h = ap (λ (l : List (List TxChange)). database_after catalog l (no_rows catalog)) (take-append-le version txs more h)
 
 own_later : (meta : Metadata) (s u : State) (more : List (List TxChange)) → u.transactions ≡ s.transactions ++ more → (t : Turn) → IsOwnNow meta s t → IsOwnResult meta u t
@@ -83,7 +83,7 @@ own_later meta s u more grows t own =
     (sym (snapshot_later meta.catalog s.transactions more t.version own.1) ∙ ap (λ (txs : List (List TxChange)). snapshot meta.catalog txs t.version) (sym grows))
 
 -- the transactions of a run begin with those before
-all_grow : (meta : Metadata) (h : List Event) (s : State) → (more : List (List TxChange)) × ((after_all meta s h).transactions ≡ s.transactions ++ more)
+pub all_grow : (meta : Metadata) (h : List Event) (s : State) → (more : List (List TxChange)) × ((after_all meta s h).transactions ≡ s.transactions ++ more)
 all_grow meta [] s = ([], sym (append-nil s.transactions))
 all_grow meta (e ∷ h) s =
     let g = event_on meta s e in

@@ -141,6 +141,24 @@ TellsChanges meta =
     (h : List Event) (number : ℕ) (sub : Subscription) → subscription_at number (run meta h).subscriptions ≡ Some sub → sub.query.kind ≡ Live →
     EachDiffersFromNext (told meta h number)
 
+-- Cursors
+
+-- where a stream stands after a turn: at the last row that it is told, if there is one
+abbrev pub cursor_after : Metadata → State → Turn → Val
+cursor_after meta s t = if nat_lt 0 (own_result meta s t).rows then (own_result meta s t).last else t.subscription.cursor
+
+-- the first turn finds a cursor, each turn finds it where the one before left it, and the last leaves it here
+abbrev pub Leads : (Turn → Val) → Val → List Turn → Val → Type 0
+Leads after from [] to = to ≡ from
+Leads after from (t ∷ ts) to = (t.subscription.cursor ≡ from) × Leads after (after t) ts to
+
+-- From any moment on to any later one, a stream moves along its own results alone.
+abbrev pub MovesAlong : Metadata → Type 0
+MovesAlong meta =
+    (before after : List Event) (number : ℕ) (first last : Subscription) → subscription_at number (run meta before).subscriptions ≡ Some first →
+    subscription_at number (run meta (before ++ after)).subscriptions ≡ Some last → last.query.kind ≡ Stream →
+    Leads (cursor_after meta (run meta (before ++ after))) first.cursor (filter (is_turn_of number) (turns_from meta (run meta before) after)) last.cursor
+
 -- Completion
 
 -- a subscription of this number is live

@@ -1,4 +1,4 @@
-ghost use Rattle.model.specs.Laws.{ResultsAreOfTurns, TellsOwnResults, NeverReturns, BeginsAtItsSubscribe, TellsChanges, EndsForGood, AnswersOnce, ClosesEnd, GoneEnds, LiveAreAcknowledged, AdmitsSubscribes, KeepsBatchesApart};
+ghost use Rattle.model.specs.Laws.{ResultsAreOfTurns, TellsOwnResults, NeverReturns, BeginsAtItsSubscribe, TellsChanges, MovesAlong, EndsForGood, AnswersOnce, ClosesEnd, GoneEnds, LiveAreAcknowledged, AdmitsSubscribes, KeepsBatchesApart};
 
 use role_model::Metadata;
 
@@ -12,6 +12,7 @@ use role_model::Metadata;
 /// - `order`, `beginning`: the versions of a subscription's turns never fall, and none is below the version at its
 ///   subscribe.
 /// - `change`: two consecutive texts that a live query is told differ.
+/// - `cursors`: a stream's cursor is, at each turn, where the turn before left it, at the last row that it was told.
 /// - `completion`, `once`: a subscription has no turn after its end, and the event that answers a query which is answered
 ///   once completes and ends it.
 /// - `closes`, `gone`, `live`: a close or the end of a connection ends its subscriptions, and each live one is of an
@@ -26,6 +27,7 @@ pub fn run_laws()
     ensures order { (meta : Metadata) → NeverReturns meta }
     ensures beginning { (meta : Metadata) → BeginsAtItsSubscribe meta }
     ensures change { (meta : Metadata) → TellsChanges meta }
+    ensures cursors { (meta : Metadata) → MovesAlong meta }
     ensures completion { (meta : Metadata) → EndsForGood meta }
     ensures once { (meta : Metadata) → AnswersOnce meta }
     ensures closes { (meta : Metadata) → ClosesEnd meta }

@@ -1,5 +1,6 @@
 use Rattle.model.proofs.AdmittedSubscribes.{admits_subscribes}
 use Rattle.model.proofs.Changes.{tells_changes}
+use Rattle.model.proofs.Cursors.{moves_along}
 use Rattle.model.proofs.EndedSubscriptions.{ends_for_good, answers_once, closes_end, gone_ends}
 use Rattle.model.proofs.LinkedRuns.{live_are_acknowledged}
 use Rattle.model.proofs.Order.{never_returns, begins_at_its_subscribe}
@@ -22,6 +23,9 @@ returns-clause-beginning c = begins_at_its_subscribe
 
 pub returns-clause-change : goal.returns-clause-change
 returns-clause-change c = tells_changes
+
+pub returns-clause-cursors : goal.returns-clause-cursors
+returns-clause-cursors c = moves_along
 
 pub returns-clause-completion : goal.returns-clause-completion
 returns-clause-completion c = ends_for_good
