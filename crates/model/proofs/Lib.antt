@@ -20,3 +20,4 @@ pub mod OwnResults
 pub mod WorkedLaws
 pub mod LinkedRuns
 pub mod Cursors
+pub mod Numbers

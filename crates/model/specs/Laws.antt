@@ -2,7 +2,7 @@
 -- together. They speak of any list of events. This project's own, after the `graphql-transport-ws` protocol and Hasura's
 -- live query architecture.
 use Rattle.std.specs.Prelude.{◌≡◌, ◌≢◌, ◌≤◌, ◌<◌, ℕ, Bool, true, false, ◌&&◌, ◌==◌, nat_lt, ⊤, if◌then◌else◌, is_some, Option, Some, None, List, [], ◌∷◌, ◌++◌, length, map, filter, codes}
-use Rattle.std.specs.List.{list_any, flat_map, starts_with, AllByRecursion}
+use Rattle.std.specs.List.{list_any, flat_map, range_with_len, starts_with, AllByRecursion}
 use Rattle.scalar_val.specs.declared.val.Val.{Val}
 use Rattle.data_model.specs.Rows.{Database}
 use Rattle.role_model.specs.declared.metadata.Metadata.{Metadata}
@@ -72,6 +72,12 @@ texts = map (λ q. q.text)
 -- the texts that are queued for one subscription at its turns, in order
 abbrev pub told : Metadata → List Event → ℕ → List (List ℕ)
 told meta h number = flat_map (λ t. texts t.queued) (turns_for meta h number)
+
+-- Numbers
+
+-- subscriptions have the numbers from 1 on, in order, and keep them, ended ones too: no number is used again
+abbrev pub AreNumberedInOrder : Metadata → Type 0
+AreNumberedInOrder meta = (h : List Event) → map (λ sub. sub.number) (run meta h).subscriptions ≡ range_with_len 1 (length (run meta h).subscriptions)
 
 -- Results are told at turns
 

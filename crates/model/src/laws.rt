@@ -1,10 +1,11 @@
-ghost use Rattle.model.specs.Laws.{ResultsAreOfTurns, TellsOwnResults, NeverReturns, BeginsAtItsSubscribe, TellsChanges, MovesAlong, EndsForGood, AnswersOnce, ClosesEnd, GoneEnds, LiveAreAcknowledged, AdmitsSubscribes, KeepsBatchesApart};
+ghost use Rattle.model.specs.Laws.{AreNumberedInOrder, ResultsAreOfTurns, TellsOwnResults, NeverReturns, BeginsAtItsSubscribe, TellsChanges, MovesAlong, EndsForGood, AnswersOnce, ClosesEnd, GoneEnds, LiveAreAcknowledged, AdmitsSubscribes, KeepsBatchesApart};
 
 use role_model::Metadata;
 
 /// What holds of every run of the machine, whatever its metadata and its events. A subscription's turn is its part in a
 /// publication of which it is a live member.
 ///
+/// - `numbers`: subscriptions have the numbers from 1 on, in order, and no number is used again.
 /// - `results`: each `next` text is queued at a turn.
 /// - `own`: at each turn a subscription is told the result of its own query and cursor, alone, on the snapshot after as
 ///   many accepted transactions as the job's version says: a live query first and then only on change, a query that is
@@ -22,6 +23,7 @@ use role_model::Metadata;
 /// - `batches`: a subscription is a member of at most one open job, members of one cohort are in the same one, and who is
 ///   due is live and of a cohort without a member in an open job.
 pub fn run_laws()
+    ensures numbers { (meta : Metadata) → AreNumberedInOrder meta }
     ensures results { (meta : Metadata) → ResultsAreOfTurns meta }
     ensures own { (meta : Metadata) → TellsOwnResults meta }
     ensures order { (meta : Metadata) → NeverReturns meta }

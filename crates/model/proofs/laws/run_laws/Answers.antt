@@ -3,11 +3,15 @@ use Rattle.model.proofs.Changes.{tells_changes}
 use Rattle.model.proofs.Cursors.{moves_along}
 use Rattle.model.proofs.EndedSubscriptions.{ends_for_good, answers_once, closes_end, gone_ends}
 use Rattle.model.proofs.LinkedRuns.{live_are_acknowledged}
+use Rattle.model.proofs.Numbers.{are_numbered_in_order}
 use Rattle.model.proofs.Order.{never_returns, begins_at_its_subscribe}
 use Rattle.model.proofs.OwnResults.{tells_own_results}
 use Rattle.model.proofs.SoundRuns.{keeps_batches_apart}
 use Rattle.model.proofs.ToldResults.{results_are_of_turns}
 use Rattle.model.proofs.laws.run_laws.Goals as goal
+
+pub returns-clause-numbers : goal.returns-clause-numbers
+returns-clause-numbers c = are_numbered_in_order
 
 pub returns-clause-results : goal.returns-clause-results
 returns-clause-results c = results_are_of_turns
