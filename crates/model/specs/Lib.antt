@@ -12,6 +12,7 @@ pub mod Built
 pub mod Transcript
 pub mod Script
 pub mod Shown
+pub mod Laws
 pub mod Worked
 pub mod WorkedEvents
 pub mod WorkedScript

@@ -2,6 +2,8 @@
 //! The types here are the plain data that the definitions and the other crates speak of.
 #![tactic(auto)]
 
+mod laws;
 mod queued;
 
+pub use laws::run_laws;
 pub use queued::{Queued, QueuedList};

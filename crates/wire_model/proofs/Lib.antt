@@ -1,0 +1,3 @@
+pub mod WorkedMessages
+pub mod WorkedCloses
+pub mod WorkedScripts
