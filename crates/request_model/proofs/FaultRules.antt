@@ -1,11 +1,11 @@
 -- A text has one first fault at most, and none where it is a document.
-use Rattle.std.proofs.Common.{◌≡◌, ◌<◌, ◌≤◌, ◌⊎◌, inl, inr, ℕ, List, [], ◌∷◌, ◌++◌, length, Option, Some, None, refl, ap, sym, ◌∙◌, subst, arith, append_assoc, append-nil}
+use Rattle.std.proofs.Common.{◌≡◌, ◌⊎◌, inl, inr, ℕ, List, [], ◌∷◌, ◌++◌, Some, None, refl, ap, sym, ◌∙◌, subst, arith, append_assoc, append-nil}
 use Rattle.request_model.specs.declared.token.Token.{Token}
 use Rattle.request_model.specs.declared.document.Document.{Document}
 use Rattle.request_model.specs.Strings.{Text}
 use Rattle.request_model.specs.Lexemes.{lexemes}
 use Rattle.request_model.specs.Grammar.{Lexeme, IsDocument}
-use Rattle.request_model.specs.Place.{lexeme, lexemes_of, Begins, Derives, IsShallow, Reads, FaultAt, too_long, at_lexeme, at_bad, at_end, level_after, length_limit}
+use Rattle.request_model.specs.Place.{lexeme, lexemes_of, Begins, IsShallow, Reads, FaultAt, too_long, at_lexeme, at_bad, at_end, level_after}
 
 shallow_front : (level : ℕ) (a b : List Lexeme) → IsShallow level (a ++ b) → IsShallow level a
 shallow_front level [] b h = tt

@@ -1,2 +1,5 @@
 pub mod FaultRules
+pub mod FirstFault
+pub mod SelectionRules
+mod SelectionRows
 mod Worked

@@ -1,5 +1,5 @@
 -- Worked examples, computed from the definitions.
-use Rattle.std.proofs.Common.{◌≡◌, ◌≢◌, ℕ, ◌++◌, List, [], ◌∷◌, Option, Some, None, true, false, refl, arith}
+use Rattle.std.proofs.Common.{◌≡◌, ◌≢◌, ℕ, ◌++◌, List, [], ◌∷◌, Some, None, true, false, refl, arith}
 use Rattle.std.specs.Prelude.{codes}
 use lib.Utf8.{encode}
 use Rattle.request_model.specs.declared.token.Token.{Token}
@@ -16,7 +16,7 @@ use Rattle.request_model.specs.declared.document.Definition.TheVariants as d
 use Rattle.request_model.specs.declared.document.Document.{Document}
 use Rattle.request_model.specs.Strings.{unescaped}
 use Rattle.request_model.specs.Lexemes.{lexemes, front}
-use Rattle.request_model.specs.Grammar.{Lexeme, Punct, Spread, Name, Int, Quoted, dollar, paren, end_paren, colon, bracket, end_bracket, brace, end_brace, no_more, IsValue, variable, integer, string, null, list, no_values, more_values, a_pair, no_pairs, no_arguments, some_arguments, plain, IsSelection, IsSet, field, spread, no_selections, more_selections, a_set, no_set, IsDefinition, shorthand, IsDocument, a_document}
+use Rattle.request_model.specs.Grammar.{Lexeme, Spread, Name, Int, Quoted, dollar, paren, end_paren, colon, bracket, end_bracket, brace, end_brace, no_more, IsValue, variable, integer, string, null, list, no_values, more_values, a_pair, no_pairs, no_arguments, some_arguments, plain, IsSelection, IsSet, field, spread, no_selections, more_selections, a_set, no_set, IsDefinition, shorthand, IsDocument, a_document}
 use Rattle.request_model.specs.Place.{opens_65th, Begins, FaultAt, at_lexeme, at_bad}
 
 abbrev token : TokenKind → ℕ → ℕ → Token

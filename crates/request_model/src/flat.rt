@@ -35,3 +35,28 @@ pub struct Flat {
     pub conditions: StrList,
     pub fields: FlatFieldList,
 }
+
+/// Why an operation isn't collected. Where several faults hold, the first one of this list counts.
+#[derive(Clone, Copy, Debug, PartialEq, Eq)]
+pub enum FlatFault {
+    /// There is no operation, or none of the wanted name.
+    NoOperation,
+    /// No name is wanted, and there are several operations.
+    AmbiguousOperation,
+    /// The operation is a mutation.
+    NotServed,
+    /// A spread that is reached names no fragment.
+    UnknownFragment,
+    /// A fragment that is reached reaches itself.
+    FragmentCycle,
+    /// There is a directive other than `skip` and `include`, or one on a definition.
+    NoDirective,
+    /// A directive hasn't exactly one argument, `if` with a boolean.
+    NotBoolean,
+    /// There is a field at level 13, or there are more than 4,096 fields.
+    TooLarge,
+    /// Two definitions share a name, or two fields of one response key differ.
+    Conflict,
+    /// Memory was refused.
+    NoMemory,
+}

@@ -2,9 +2,15 @@ ghost use Rattle.std.specs.Prelude.{◌≡◌, ℕ};
 ghost use Rattle.request_model.specs.Strings.{Text};
 ghost use Rattle.request_model.specs.declared.document.Document.{Document};
 ghost use Rattle.request_model.specs.Place.{Reads, FaultAt};
+ghost use Rattle.request_model.specs.SelectionLaws.{FlattensOnce};
 
 /// A text has one first fault at most, and none where it is a document.
 pub fn faults()
     ensures one { (text : Text) (a b : ℕ) → FaultAt text a → FaultAt text b → a ≡ b }
     ensures none { (text : Text) (d : Document) (a : ℕ) → Reads text d → FaultAt text a → ⊥ }
+{}
+
+/// An operation has one flat selection at most, or one first fault, and not both.
+pub fn flat_selections()
+    ensures once { FlattensOnce }
 {}

@@ -11,6 +11,6 @@ pub use document::{
     Definition, DefinitionList, Directive, DirectiveList, Document, GPair, GPairs, GValue,
     GValueList, OpWord, Selection, SelectionList, TypeRef, VarDef, VarDefList,
 };
-pub use flat::{Flat, FlatField, FlatFieldList, StrList, Word};
-pub use laws::faults;
+pub use flat::{Flat, FlatFault, FlatField, FlatFieldList, StrList, Word};
+pub use laws::{faults, flat_selections};
 pub use token::{Token, TokenKind};
