@@ -3,8 +3,13 @@
 
 mod canonical;
 mod copies;
+mod graph;
+mod operation;
 mod ordered;
+mod scope;
+mod spreads;
 mod values_text;
+mod walks;
 
 pub use canonical::canon;
 pub use request_model::{Flat, FlatFault, FlatField, FlatFieldList, StrList, Word};

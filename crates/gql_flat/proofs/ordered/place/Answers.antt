@@ -1,4 +1,4 @@
-use Rattle.std.proofs.Common.{rules, arith, ◌≡◌, ◌<◌, ◌∙◌, sym, length, map, ap}
+use Rattle.std.proofs.Common.{◌∙◌, sym, map}
 use Rattle.gql_flat.specs.Names.{compare_names}
 use Rattle.gql_flat.proofs.OrderRules.{placed_here, placed_behind, at_mapped, below_mapped}
 use Rattle.gql_flat.proofs.ordered.place.Goals as goal
