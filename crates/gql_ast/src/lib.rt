@@ -6,6 +6,8 @@ mod definitions;
 mod limit;
 mod lists;
 mod selections;
+#[cfg(test)]
+mod tests;
 mod values;
 mod variables;
 mod whole;

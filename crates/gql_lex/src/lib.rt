@@ -5,6 +5,8 @@ mod bytes;
 mod chars;
 mod front;
 mod run;
+#[cfg(test)]
+mod tests;
 
 pub use chars::unescaped;
 pub use request_model::{Token, TokenKind};

@@ -1,0 +1,5 @@
+pub mod GraphRules
+pub mod OrderRules
+pub mod PartRules
+pub mod ReachRules
+pub mod TruthRules

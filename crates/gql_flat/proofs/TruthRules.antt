@@ -1,0 +1,48 @@
+-- Truth, and tests of numbers and texts.
+use Rattle.std.proofs.Common.{◌≡◌, ◌⊎◌, inl, inr, ◌<◌, ◌||◌, ◌&&◌, nat_eq, nat_lt, arith, refl, ℕ, Bool, true, false}
+use Rattle.std.specs.Str.{bytes_eq}
+use Rattle.std.proofs.lemmas.Bool.Decides.{nat_tests}
+use Rattle.std.proofs.lemmas.Slice.Eq.{bytes_eq-Decides}
+use Rattle.request_model.specs.Strings.{Text}
+
+pub or_true : (a b : Bool) → (a || b) ≡ true → (a ≡ true) ⊎ (b ≡ true)
+or_true true b h = inl refl
+or_true false b h = inr h
+
+pub or_left : (a b : Bool) → a ≡ true → (a || b) ≡ true
+or_left true b h = refl
+or_left false b h = cc
+
+pub or_right : (a b : Bool) → b ≡ true → (a || b) ≡ true
+or_right true b h = refl
+or_right false b h = h
+
+pub or_false : (a b : Bool) → (a || b) ≡ false → (a ≡ false) × (b ≡ false)
+or_false true b h = cc
+or_false false b h = (refl, h)
+
+pub both_true : (a b : Bool) → (a && b) ≡ true → (a ≡ true) × (b ≡ true)
+both_true true b h = (refl, h)
+both_true false b h = cc
+
+pub and_true : (a b : Bool) → a ≡ true → b ≡ true → (a && b) ≡ true
+and_true true b h g = g
+and_true false b h g = cc
+
+pub same_number : (j k : ℕ) → nat_eq j k ≡ true → j ≡ k
+same_number j k h = grind (arith, nat_tests)
+
+pub itself : (k : ℕ) → nat_eq k k ≡ true
+itself k = grind (arith, nat_tests)
+
+pub below : (j k : ℕ) → nat_lt j k ≡ true → j < k
+below j k h = grind (arith, nat_tests)
+
+pub is_below : (j k : ℕ) → j < k → nat_lt j k ≡ true
+is_below j k h = grind (arith, nat_tests)
+
+pub same_text : (t u : Text) → bytes_eq t u ≡ true → t ≡ u
+same_text t u h = (bytes_eq-Decides t u).0 h
+
+pub own_text : (t : Text) → bytes_eq t t ≡ true
+own_text t = (bytes_eq-Decides t t).1 refl

@@ -1,0 +1,15 @@
+//! The flat selection of a GraphQL operation, and its canonical text.
+#![tactic(auto)]
+
+mod canonical;
+mod copies;
+mod graph;
+mod operation;
+mod ordered;
+mod scope;
+mod spreads;
+mod values_text;
+mod walks;
+
+pub use canonical::canon;
+pub use request_model::{Flat, FlatFault, FlatField, FlatFieldList, StrList, Word};
