@@ -1,5 +1,5 @@
 -- Worked rows of refusals.
-use Rattle.std.proofs.Common.{◌≡◌, List, [], ◌∷◌, map, None, Result, Err, true, refl}
+use Rattle.std.proofs.Common.{◌≡◌, ◌≢◌, inl, inr, arith, List, [], ◌∷◌, map, None, Result, Err, true, refl}
 use Rattle.std.specs.Prelude.{codes}
 use Rattle.std.specs.Fmt.{digits}
 use Rattle.serde_json.specs.Data.{no_members}
@@ -11,11 +11,21 @@ use Rattle.request_model.specs.declared.flat.FlatField.{FlatField}
 use Rattle.request_model.specs.declared.flat.Flat.{Flat}
 use Rattle.request_model.specs.declared.flat.Word.TheVariants as word
 use Rattle.request_model.specs.Strings.{Text}
-use Rattle.request_model.proofs.SelectionRules.{canonical_texts}
+use Rattle.request_model.specs.declared.document.Selection.TheVariants as s
+use Rattle.request_model.specs.declared.document.OpWord.TheVariants as op
+use Rattle.request_model.specs.declared.document.Definition.TheVariants as d
+use Rattle.request_model.specs.declared.document.Document.{Document}
+use Rattle.request_model.specs.Lexemes.{lexemes, front}
+use Rattle.request_model.specs.Grammar.{no_more, no_arguments, plain, field, spread, no_selections, a_set, no_set, some_set, no_name, no_variables, mutation, subscription as subscription_word, operation, a_document}
+use Rattle.request_model.specs.Place.{Reads}
+use Rattle.request_model.specs.Selection.{refused as chosen_refused}
+use Rattle.request_model.proofs.Worked.{missing_bracket}
+use Rattle.request_model.proofs.SelectionRules.{selections, canonical_texts}
 use Rattle.query_model.specs.declared.fault.FaultKind.{FaultKind}
 use Rattle.query_model.specs.declared.fault.FaultKind.TheVariants as fault
 use Rattle.query_model.specs.declared.fault.QueryFault.{QueryFault}
-use Rattle.query_model.specs.Admission.{Admitted, admitted, refusal, message_of}
+use Rattle.query_model.specs.Refusals.{refusal, message_of}
+use Rattle.query_model.specs.Admission.{Admitted, admitted, Admits, unread, unselected}
 use Rattle.query_model.proofs.QueryRules.{queries}
 use Rattle.query_model.proofs.Samples.{users, posts, admin, session, reader_with, leaf, node, subscription, pair, one}
 
@@ -145,3 +155,48 @@ messages : map message_of
     codes "syntax error at byte 27" ∷ codes "no such field: usr" ∷ codes "one root field needed" ∷ codes "missing session variable: x-hasura-user-id" ∷ []
 unfolding digits
 messages = refl
+
+-- ---- from texts
+
+-- a bracket is missing
+syntax : Admits users admin (codes "subscription { user { id } ") None no_members (Err (record { kind = fault.Syntax; at = 27; name = [] }))
+syntax = unread missing_bracket
+
+-- mutation { user { id } }
+mutation_document : Document
+mutation_document = record { definitions = d.Operation op.Mutation None [] [] (s.Field None (codes "user") [] [] (s.Field None (codes "id") [] [] [] ∷ []) ∷ []) ∷ [] }
+
+mutation_read : Reads (codes "mutation { user { id } }") mutation_document
+unfolding lexemes front mutation_document
+mutation_read = record {
+  fits = omega arith;
+  good = refl;
+  derives = (
+    a_document (operation mutation no_name no_variables no_more
+        (a_set (field plain no_arguments no_more (some_set (a_set (field plain no_arguments no_more no_set) no_selections))) no_selections)) no_more,
+    (refl, (refl, (refl, (refl, (refl, (refl, (refl, tt))))))),
+  );
+}
+
+not_served : Admits users admin (codes "mutation { user { id } }") None no_members (Err (refusal fault.NotServed []))
+unfolding mutation_document
+not_served = unselected mutation_read (chosen_refused refl (inl (refl, refl)))
+
+-- subscription { ...F }
+spread_document : Document
+spread_document = record { definitions = d.Operation op.Subscription None [] [] (s.Spread (codes "F") [] ∷ []) ∷ [] }
+
+fragment_name : codes "F" ≢ codes "on"
+fragment_name e = cc
+
+spread_read : Reads (codes "subscription { ...F }") spread_document
+unfolding lexemes front spread_document
+spread_read = record {
+  fits = omega arith;
+  good = refl;
+  derives = (a_document (operation subscription_word no_name no_variables no_more (a_set (spread fragment_name no_more) no_selections)) no_more, (refl, (refl, (refl, (refl, (refl, tt))))));
+}
+
+unknown_fragment : Admits users admin (codes "subscription { ...F }") None no_members (Err (refusal fault.UnknownFragment []))
+unfolding spread_document
+unknown_fragment = unselected spread_read (chosen_refused refl (inr ((λ e. cc), inl (inl (simp selections), refl))))

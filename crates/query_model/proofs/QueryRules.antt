@@ -32,7 +32,8 @@ use Rattle.request_model.specs.Strings.{Text}
 use Rattle.request_model.specs.Selection.{concatenated}
 use Rattle.query_model.specs.declared.fault.QueryFault.{QueryFault}
 use Rattle.query_model.specs.Conditions.{Reader, Conditions, conditions_in, condition_at, conditions_step, key_filter}
-use Rattle.query_model.specs.Admission.{Judged, judged, judged_at, condition_step, key_fault, keys_fault, refused}
+use Rattle.query_model.specs.Refusals.{refused}
+use Rattle.query_model.specs.Walk.{Judged, judged, judged_at, condition_step, key_fault, keys_fault}
 use Rattle.query_model.specs.declared.fault.FaultKind.TheVariants as fault
 use Rattle.query_model.specs.Variables.{Variable}
 use Rattle.query_model.specs.Queries.{value_names, value_names_step, pair_names_step}

@@ -48,7 +48,7 @@ use Rattle.request_model.specs.Canonical.{named_text}
 use Rattle.query_model.specs.Names.{Root, RowsOf, RowOf, StreamOf, NoRoot, Meant, Typename, AColumn, ALink, Unseen, meant, key_columns, column_name, kind_of, argument, literal_value, variable_in, items_in, initial_column, descends}
 use Rattle.query_model.specs.Variables.{number_in}
 use Rattle.query_model.specs.Conditions.{Reader, where_filter, orders_in}
-use Rattle.query_model.specs.Admission.{is_null_literal}
+use Rattle.query_model.specs.Walk.{is_null_literal}
 use Rattle.query_model.specs.Queries.{SessionSlot, slot_cmp, session_name, root_of, selection_slots, text_variables}
 use Rattle.query_model.specs.Taken.{Extent, All, First, Next, Wanted, joins, is_beyond, Pair, wanted_text, quoted_text, Result, result_of}
 use Rattle.query_model.specs.Results.{Change, changed}

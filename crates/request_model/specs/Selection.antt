@@ -1,13 +1,13 @@
 -- The fields that an operation selects: GraphQL October 2021, section 6.3.2 "Field Collection", with the merging of
 -- sections 5.3.2 and 6.4.3, and what refuses an operation before that. The codes, their order and the limits are this
 -- project's own.
-use Rattle.std.specs.Prelude.{◌≡◌, ◌≢◌, ◌⊎◌, ℕ, zero, suc, ◌+◌, max, Bool, true, false, not, ◌&&◌, ◌||◌, if◌then◌else◌, nat_lt, List, [], ◌∷◌, ◌++◌, length, map, find, flat_map, Option, Some, None, is_none, option_and_then, Result, Ok, Err, IsTrue, codes}
+use Rattle.std.specs.Prelude.{◌≡◌, ◌≢◌, ◌⊎◌, ℕ, zero, suc, ◌+◌, max, Bool, true, false, not, ◌&&◌, ◌||◌, if◌then◌else◌, nat_lt, List, [], ◌∷◌, ◌++◌, length, map, find, flat_map, Option, Some, None, is_none, option_and_then, unwrap_or, Result, Ok, Err, IsTrue, codes}
 use Rattle.std.specs.List.{list_any, filter_map, AllByRecursion}
 use Rattle.std.specs.Str.{bytes_eq}
 use Rattle.std.specs.Ordering.{nat_cmp, on}
 use Rattle.std.specs.Cmp.Lexicographic.{slice_cmp}
-use Rattle.serde_json.specs.Data.{Data, Members}
-use Rattle.serde_json.specs.Find.{as_bool, get_member}
+use Rattle.serde_json.specs.Data.{Data, Members, no_members}
+use Rattle.serde_json.specs.Find.{as_bool, as_object, get_member}
 use Rattle.request_model.specs.declared.document.GValue.{GValue}
 use Rattle.request_model.specs.declared.document.GValue.TheOpen.{GValue-F}
 use Rattle.request_model.specs.declared.document.GValue.TheViews.{out-GValue, out-GPair}
@@ -96,6 +96,10 @@ pub record Scope : Type 0 where
   pub fragments : List Fragment
   pub vars : List VarDef
   pub values : Members
+
+-- the values that a request gives in its `variables`; what is no object gives none
+abbrev pub given_values : Data → Members
+given_values d = unwrap_or (as_object d) no_members
 
 abbrev pub bool_in : GValue-F GValue GPair → Option Bool
 bool_in (GValue-F.Bool b) = Some b
