@@ -18,7 +18,7 @@ pub struct Names {
 impl Model for Names {
     ghost use Rattle.std.specs.Prelude.{List};
     ghost use Rattle.role_model.specs.Texts.{Text};
-    ghost use Rattle.metadata_read.specs.Places.{Finds};
+    ghost use Rattle.filter_read.specs.Places.{Finds};
 
     ghost Value = { List Text };
 
