@@ -2,7 +2,14 @@
 #![tactic(auto)]
 
 mod applying;
+mod changing;
+mod members;
+mod naming;
 mod reading;
+mod reasons;
+#[cfg(test)]
+mod tests;
+mod values;
 
 pub use applying::{ApplyFault, apply};
 pub use data_model::{Reason, Tx, TxCell, TxCells, TxChange, TxFault};
