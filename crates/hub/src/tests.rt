@@ -232,8 +232,11 @@ key = [\"id\"]
 columns = [{ name = \"id\", type = \"int\" }, { name = \"name\", type = \"text\", nullable = true }]
 ";
 
-#[test]
-fn tells_the_first_result_and_then_each_change(rt: HostRuntime) -> Result<(), Fail> {
+fn changes<L: Ledger>(alloc: Global, blank: Blank) -> Result<Vec<u8>, NoMemory>
+    requires name { blank.name ≡ L.name }
+    requires parts { blank.parts ≡ L.parts }
+    requires some { 0 < blank.parts }
+{
     let acts = [
         Act::Open(1),
         Act::Say(1, INIT),
@@ -245,7 +248,12 @@ fn tells_the_first_result_and_then_each_change(rt: HostRuntime) -> Result<(), Fa
         Act::Commit(BACK),
         Act::Poll,
     ];
-    let out = told::<Brand>(rt.alloc(), USERS, &acts, Blank::new(1))?;
+    told::<L>(alloc, USERS, &acts, blank)
+}
+
+#[test]
+fn tells_the_first_result_and_then_each_change(rt: HostRuntime) -> Result<(), Fail> {
+    let out = changes::<Brand>(rt.alloc(), Blank::new(1))?;
     let want = b"{\"type\":\"connection_ack\"}
 {\"type\":\"next\",\"id\":\"a\",\"payload\":{\"data\":{\"user\":[]}}}
 committed
@@ -276,8 +284,11 @@ const NO_ID: &str =
 
 const NO_USER: &str = "[{\"update\":\"user\",\"key\":{\"id\":3},\"set\":{}}]";
 
-#[test]
-fn changes_nothing_by_a_refused_transaction(rt: HostRuntime) -> Result<(), Fail> {
+fn refusals<L: Ledger>(alloc: Global, blank: Blank) -> Result<Vec<u8>, NoMemory>
+    requires name { blank.name ≡ L.name }
+    requires parts { blank.parts ≡ L.parts }
+    requires some { 0 < blank.parts }
+{
     let acts = [
         Act::Open(1),
         Act::Say(1, INIT),
@@ -288,7 +299,12 @@ fn changes_nothing_by_a_refused_transaction(rt: HostRuntime) -> Result<(), Fail>
         Act::Commit(NO_USER),
         Act::Poll,
     ];
-    let out = told::<Brand>(rt.alloc(), ONE_USER, &acts, Blank::new(1))?;
+    told::<L>(alloc, ONE_USER, &acts, blank)
+}
+
+#[test]
+fn changes_nothing_by_a_refused_transaction(rt: HostRuntime) -> Result<(), Fail> {
+    let out = refusals::<Brand>(rt.alloc(), Blank::new(1))?;
     let want = b"{\"type\":\"connection_ack\"}
 committed
 UniqueTaken
@@ -316,8 +332,11 @@ const OF_EACH_KIND: &str =
 const ENDS: &str =
     "[{\"insert\":\"k\",\"row\":{\"id\":9223372036854775807,\"body\":\"\\\"\\u0001\",\"b\":true}},{\"insert\":\"k\",\"row\":{\"id\":-9223372036854775808,\"body\":\"\",\"u\":\"67E55044-10B1-426F-9247-BB680E5FE0C8\"}}]";
 
-#[test]
-fn shows_values_of_each_kind(rt: HostRuntime) -> Result<(), Fail> {
+fn kinds<L: Ledger>(alloc: Global, blank: Blank) -> Result<Vec<u8>, NoMemory>
+    requires name { blank.name ≡ L.name }
+    requires parts { blank.parts ≡ L.parts }
+    requires some { 0 < blank.parts }
+{
     let acts = [
         Act::Open(1),
         Act::Say(1, INIT),
@@ -325,7 +344,12 @@ fn shows_values_of_each_kind(rt: HostRuntime) -> Result<(), Fail> {
         Act::Commit(ENDS),
         Act::Poll,
     ];
-    let out = told::<Brand>(rt.alloc(), KINDS, &acts, Blank::new(1))?;
+    told::<L>(alloc, KINDS, &acts, blank)
+}
+
+#[test]
+fn shows_values_of_each_kind(rt: HostRuntime) -> Result<(), Fail> {
+    let out = kinds::<Brand>(rt.alloc(), Blank::new(1))?;
     let want = b"{\"type\":\"connection_ack\"}
 committed
 {\"type\":\"next\",\"id\":\"a\",\"payload\":{\"data\":{\"k\":[{\"id\":-9223372036854775808,\"body\":\"\",\"b\":null,\"u\":\"67e55044-10b1-426f-9247-bb680e5fe0c8\"},{\"id\":9223372036854775807,\"body\":\"\\\"\\u0001\",\"b\":true,\"u\":null}]}}}
@@ -342,8 +366,11 @@ tables = []
 ";
 
 /// Where a secret is configured no client is let in so far.
-#[test]
-fn knows_its_connections(rt: HostRuntime) -> Result<(), Fail> {
+fn connections<L: Ledger>(alloc: Global, blank: Blank) -> Result<Vec<u8>, NoMemory>
+    requires name { blank.name ≡ L.name }
+    requires parts { blank.parts ≡ L.parts }
+    requires some { 0 < blank.parts }
+{
     let acts = [
         Act::Say(1, INIT),
         Act::Open(1),
@@ -353,7 +380,12 @@ fn knows_its_connections(rt: HostRuntime) -> Result<(), Fail> {
         Act::Say(1, "hello"),
         Act::Say(1, INIT),
     ];
-    let out = told::<Brand>(rt.alloc(), SECRET, &acts, Blank::new(1))?;
+    told::<L>(alloc, SECRET, &acts, blank)
+}
+
+#[test]
+fn knows_its_connections(rt: HostRuntime) -> Result<(), Fail> {
+    let out = connections::<Brand>(rt.alloc(), Blank::new(1))?;
     let want = b"unknown
 known
 unbuilt

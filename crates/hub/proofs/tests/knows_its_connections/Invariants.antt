@@ -1,4 +1,4 @@
 use Rattle.hub.proofs.tests.knows_its_connections.Given as goal
 
-abbrev pub ghosts-told : goal.ghosts-told
-ghosts-told g a = record { name = a.blank.name; parts = a.blank.parts }
+abbrev pub ghosts-connections : goal.ghosts-connections
+ghosts-connections g a = record { name = a.blank.name; parts = a.blank.parts }
