@@ -1,5 +1,5 @@
 -- A filter that is read fits the rows of its table, where each session variable that it names has a slot.
-use Rattle.std.proofs.Common.{◌≡◌, ℕ, ◌+◌, ◌<◌, ◌≤◌, zero, suc, Bool, true, false, not, ◌&&◌, ◌||◌, Option, Some, None, List, [], ◌∷◌, ◌++◌, length, map, nat_lt, nat_le, is_none, is_some, unwrap_or, option_map, option_and_then, if◌then◌else◌, cond, IsTrue, refl, subst, sym, ap, ◌∙◌, position, find, codes, arith}
+use Rattle.std.proofs.Common.{◌≡◌, ℕ, ◌<◌, ◌≤◌, suc, Bool, true, false, ◌&&◌, ◌||◌, Option, Some, None, List, [], ◌∷◌, length, map, nat_lt, is_none, is_some, unwrap_or, option_map, option_and_then, if◌then◌else◌, refl, subst, sym, ap, ◌∙◌, position, find, codes, arith}
 use Rattle.std.specs.List.{list_any, list_all, AllByRecursion, slice_get}
 use Rattle.std.specs.Str.{bytes_eq, str_to_ascii_lowercase}
 use Rattle.std.proofs.lemmas.Bool.Decides.{nat_tests}
@@ -22,8 +22,8 @@ use Rattle.role_model.specs.declared.filter.Items.{Items}
 use Rattle.role_model.specs.declared.filter.Items.TheVariants.{Each}
 use Rattle.role_model.specs.declared.filter.Op.{Op}
 use Rattle.role_model.specs.declared.filter.Operand.{Operand}
-use Rattle.role_model.specs.declared.filter.Operand.TheVariants.{Const, Sess}
-use Rattle.role_model.specs.JsonFilters.{with_first, of_each, of_each_member, names_session, session_variable, mentions, mentions_of_items, mentions_of_members, slot_of, scalar_of, constant, operand_by, operand_of, item_of, items_of, op_named, operator_of, operators_of, column_number, condition_on, column_condition, pair_of, filter_of, filters_of, filters_of_items, pairs_of}
+use Rattle.role_model.specs.declared.filter.Operand.TheVariants.{Const}
+use Rattle.role_model.specs.JsonFilters.{with_first, of_each, of_each_member, names_session, session_variable, mentions, mentions_of_items, mentions_of_members, slot_of, scalar_of, operand_by, operand_of, item_of, items_of, op_named, operator_of, operators_of, column_number, condition_on, column_condition, pair_of, filter_of, filters_of, filters_of_items, pairs_of}
 use Rattle.role_model.specs.Texts.{Text}
 use Rattle.role_model.specs.Truth.{fits, fits_step, itself, operand_fits, items_fit, operand_value, is_bool}
 
