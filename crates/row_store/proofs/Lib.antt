@@ -1,2 +1,3 @@
 pub mod SearchSteps
 pub mod TableSteps
+pub mod Examples

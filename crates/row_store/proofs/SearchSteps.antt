@@ -7,10 +7,10 @@ use Rattle.std.specs.List.{All, list_any}
 use Rattle.std.proofs.lemmas.List.{get_or_read}
 use Rattle.scalar_val.specs.declared.val.Val.{Val}
 use Rattle.data_model.specs.declared.catalog.TableDef.{TableDef}
-use Rattle.data_model.specs.Rows.{Row, Rows, Ascends, cell, key_of, key_cmp, is_below, is_above, has_key, clash}
+use Rattle.data_model.specs.Rows.{Row, Rows, Ascends, cell, key_cmp, is_below, is_above, has_key, clash}
 use Rattle.data_model.specs.Places.{IsFree, IsHeld}
 use Rattle.data_model.proofs.Lists.{any_none}
-use Rattle.data_model.proofs.Places.{lt_is, below_upto, not_below_from, free_at, free_at_end, held_at}
+use Rattle.data_model.proofs.Places.{lt_is, below_upto, not_below_from, free_at, held_at}
 
 pub low_step : (t : TableDef) (key : List Val) (rows : Rows) (middle : ℕ) (row : Row) → Ascends t rows → middle < length rows → row ≡ get_or rows middle row → is_below t key row ≡ true → All (λ row. is_below t key row ≡ true) (take (middle + 1) rows)
 low_step t key rows middle row up within is below =

@@ -1,3 +1,4 @@
+pub mod Example
 pub mod Held
 pub mod Seen
 pub mod Stored

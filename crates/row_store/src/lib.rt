@@ -9,6 +9,8 @@ mod sharing;
 mod snapshot;
 mod stored;
 mod tables;
+#[cfg(test)]
+mod tests;
 
 pub use row::{Row, copy_row};
 pub use snapshot::{Scan, Snapshot, ValList};

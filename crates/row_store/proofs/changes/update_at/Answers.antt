@@ -1,8 +1,8 @@
-use Rattle.std.proofs.Common.{◌≡◌, ◌≤◌, ◌+◌, IsTrue, length, map, get_or, sym, ap, subst, arith}
+use Rattle.std.proofs.Common.{◌≡◌, IsTrue, length, map, get_or, sym, ap, subst, arith}
 use Rattle.std.specs.Prelude.{IfOk}
 use Rattle.std.specs.Arc.{arc_value}
 use Rattle.std.specs.List.{list_all}
-use Rattle.data_model.specs.Rows.{FitsTable, row_fits, may_stand, updated, first_reason, update_tests}
+use Rattle.data_model.specs.Rows.{FitsTable, may_stand, updated, first_reason, update_tests}
 use Rattle.row_store.specs.Held.{def_at, rows_in}
 use Rattle.row_store.specs.Stored.{reason_of, after}
 use Rattle.row_store.proofs.TableSteps.{in_range, rows_are, table_fits, state_set, fits_after}

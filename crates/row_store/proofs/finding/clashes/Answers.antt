@@ -1,4 +1,4 @@
-use Rattle.std.proofs.Common.{◌≡◌, sym}
+use Rattle.std.proofs.Common.{sym}
 use Rattle.row_store.proofs.SearchSteps.{no_unique}
 use Rattle.row_store.proofs.finding.clashes.Goals as goal
 

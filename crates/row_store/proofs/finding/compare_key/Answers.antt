@@ -1,4 +1,4 @@
-use Rattle.std.proofs.Common.{◌≡◌, ◌∙◌, sym, arith}
+use Rattle.std.proofs.Common.{◌∙◌, sym}
 use Rattle.row_store.proofs.SearchSteps.{longer_key}
 use Rattle.row_store.proofs.finding.compare_key.Goals as goal
 

@@ -1,4 +1,4 @@
-use Rattle.std.proofs.Common.{◌≡◌, ◌∙◌, ◌<◌, length, sym, arith}
+use Rattle.std.proofs.Common.{◌∙◌, sym, arith}
 use Rattle.row_store.proofs.SearchSteps.{held_here, free_here}
 use Rattle.row_store.proofs.finding.find_row.Goals as goal
 

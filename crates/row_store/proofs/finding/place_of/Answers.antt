@@ -1,4 +1,4 @@
-use Rattle.std.proofs.Common.{◌≡◌, ◌-◌, ◌/◌, ◌+◌, arith, true, false, sym, ◌∙◌}
+use Rattle.std.proofs.Common.{◌-◌, ◌/◌, ◌+◌, arith, sym, ◌∙◌}
 use Rattle.row_store.proofs.SearchSteps.{low_step, high_step}
 use Rattle.row_store.proofs.finding.place_of.Goals as goal
 

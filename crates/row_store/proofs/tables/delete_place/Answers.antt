@@ -1,4 +1,4 @@
-use Rattle.std.proofs.Common.{◌≡◌, [], sym}
+use Rattle.std.proofs.Common.{[], sym}
 use Rattle.data_model.proofs.Places.{deleted_at}
 use Rattle.data_model.proofs.Fitting.{fits_remove}
 use Rattle.data_model.proofs.Reasons.{nothing_to_delete, may_delete}

@@ -1,4 +1,3 @@
-use Rattle.std.proofs.Common.{◌≡◌}
 use Rattle.row_store.proofs.tables.insert_into.Goals as goal
 
 pub returns-in-Err-clause-answer : goal.returns-in-Err-clause-answer

@@ -1,4 +1,4 @@
-use Rattle.std.proofs.Common.{◌≡◌, ◌∙◌, map}
+use Rattle.std.proofs.Common.{◌∙◌, map}
 use Rattle.std.specs.Arc.{arc_value}
 use Rattle.row_store.proofs.TableSteps.{empty_fits}
 use Rattle.row_store.proofs.snapshot.Snapshot.new.Goals as goal

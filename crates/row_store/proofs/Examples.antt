@@ -1,0 +1,31 @@
+-- What the table of the tests takes.
+use Rattle.std.proofs.Common.{◌≡◌, ℤ, ◌<◌, ◌&&◌, Bool, true, false, IsTrue, List, [], ◌∷◌, length, refl, sym, subst, arith}
+use Rattle.std.specs.List.{list_all}
+use Rattle.scalar_val.specs.declared.val.Val.{Val}
+use Rattle.scalar_val.specs.declared.val.Val.TheVariants as val
+use Rattle.data_model.specs.declared.catalog.TableDef.{TableDef}
+use Rattle.data_model.specs.declared.transaction.SetCell.{SetCell}
+use Rattle.data_model.specs.Rows.{Fits, FitAll, may_stand, row_fits, stands_in}
+use Rattle.data_model.proofs.Fitting.{as_many}
+use Rattle.row_store.specs.Example.{name_column, users}
+use Rattle.row_store.specs.Held.{Held, def_at, table_at}
+
+pub one_table : (held : Held) → held.catalog.tables ≡ users → Fits held.catalog held.tables → 0 < length held.tables
+one_table held same fits =
+    let many = as_many users held.tables (subst (λ (ts : List TableDef). FitAll ts held.tables) same fits) in
+    omega (arith, many)
+
+abbrev pub named : Val → SetCell
+named name = record { column = 1; value = name }
+
+both : (a b : Bool) → IsTrue a → IsTrue b → IsTrue (a && b)
+both true b h k = k
+both false b h k = cc
+
+pub row_stands : (held : Held) (id : ℤ) (name : Val) → held.catalog.tables ≡ users → IsTrue (stands_in name_column name) → IsTrue (row_fits (table_at held 0).columns (val.Int id ∷ name ∷ []))
+row_stands held id name same stands =
+    subst (λ (ts : List TableDef). IsTrue (row_fits (def_at ts 0).columns (val.Int id ∷ name ∷ []))) (sym same) (both (stands_in name_column name) true stands refl)
+
+pub name_stands : (held : Held) (name : Val) → held.catalog.tables ≡ users → IsTrue (stands_in name_column name) → IsTrue (list_all (may_stand (table_at held 0)) (named name ∷ []))
+name_stands held name same stands =
+    subst (λ (ts : List TableDef). IsTrue (list_all (may_stand (def_at ts 0)) (named name ∷ []))) (sym same) (both (may_stand (def_at users 0) (named name)) true (both (stands_in name_column name) true stands refl) refl)
