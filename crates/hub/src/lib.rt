@@ -13,6 +13,8 @@ mod parts;
 mod plan;
 mod reading;
 mod reply;
+#[cfg(test)]
+mod tests;
 mod texts;
 
 pub use center::Hub;

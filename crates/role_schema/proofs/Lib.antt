@@ -1,1 +1,4 @@
+pub mod Forms
+pub mod Slots
+pub mod Soundness
 pub mod Uses

@@ -2,6 +2,8 @@
 #![tactic(auto)]
 
 mod meta;
+#[cfg(test)]
+mod tests;
 mod view;
 
 pub use meta::{Meta, MetaReadFault};

@@ -1,14 +1,19 @@
 ghost use Rattle.std.specs.Prelude.{◌≡◌, ◌≤◌, length, Ok, Err, IfOk};
 ghost use Rattle.std.specs.List.{AllByRecursion};
 ghost use Rattle.std.specs.Option.{option_copied};
-ghost use Rattle.role_model.specs.MetadataFaults.{metadata_of};
+ghost use Rattle.toml.specs.View.{table_view};
+ghost use Rattle.role_model.specs.MetadataForm.{document_of};
+ghost use Rattle.role_model.specs.MetadataFaults.{fault_of, judged_by, formed_by, metadata_of};
 ghost use Rattle.role_schema.specs.Sound.{Sound, SoundTable};
 
 use data_model::Catalog;
-use role_model::{MetaFault, Metadata};
+use metadata_form::{FormFault, read_document, read_toml};
+use metadata_read::{find_fault, read_meaning};
+use role_model::{Document, MetaFault, Metadata};
 use scalar_val::NoMemory;
 use std::alloc::Global;
 use std::marker::Model;
+use toml::Table;
 
 /// Why metadata isn't read: the first fault that holds of it, or want of memory.
 #[derive(Clone, Copy, Debug, PartialEq, Eq)]
@@ -25,6 +30,41 @@ impl From<NoMemory> for MetaReadFault {
 
     fn from(_error: NoMemory) -> MetaReadFault {
         MetaReadFault::NoMemory
+    }
+}
+
+fn judge(alloc: Global, document: Document) -> Result<Metadata, MetaReadFault>
+    ensures ok { IfOk result (λ m. judged_by document (fault_of document) ≡ Ok m) }
+    ensures refused { (fault : MetaFault) → result ≡ Err (MetaReadFault.Refused fault) → judged_by document (fault_of document) ≡ Err fault }
+{
+    match find_fault(alloc, &document)? {
+        Some(fault) => Err(MetaReadFault::Refused(fault)),
+        None => Ok(read_meaning(alloc, document)?),
+    }
+}
+
+fn judge_form(alloc: Global, table: &Table) -> Result<Metadata, MetaReadFault>
+    ensures ok { IfOk result (λ m. formed_by (document_of (table_view table.now)) ≡ Ok m) }
+    ensures refused { (fault : MetaFault) → result ≡ Err (MetaReadFault.Refused fault) → formed_by (document_of (table_view table.now)) ≡ Err fault }
+{
+    match read_document(alloc, table) {
+        Ok(document) => judge(alloc, document),
+        Err(FormFault::Form) => Err(MetaReadFault::Refused(MetaFault::BadForm)),
+        Err(FormFault::NoMemory) => Err(MetaReadFault::NoMemory),
+    }
+}
+
+fn read_metadata(alloc: Global, text: &[u8]) -> Result<Metadata, MetaReadFault>
+    ensures ok { IfOk result (λ m. metadata_of text.now ≡ Ok m) }
+    ensures refused { (fault : MetaFault) → result ≡ Err (MetaReadFault.Refused fault) → metadata_of text.now ≡ Err fault }
+{
+    if text.len() > 1048576 {
+        return Err(MetaReadFault::Refused(MetaFault::TooLong));
+    }
+    match read_toml(alloc, text) {
+        Ok(table) => judge_form(alloc, &table),
+        Err(FormFault::Form) => Err(MetaReadFault::Refused(MetaFault::Toml)),
+        Err(FormFault::NoMemory) => Err(MetaReadFault::NoMemory),
     }
 }
 
@@ -52,13 +92,15 @@ impl Model for Meta {
 impl Meta {
     /// Metadata as its text says it, or the first fault that holds of the text, in the order of `MetaFault`. The text is
     /// one TOML document in UTF-8.
+    #[tactic(auto, using(crate::proofs::Soundness::read_is_sound))]
     pub fn read(alloc: Global, text: &[u8]) -> Result<Meta, MetaReadFault>
         ensures ok { IfOk result (λ m. metadata_of text.now ≡ Ok m) }
         ensures refused { (fault : MetaFault) → result ≡ Err (MetaReadFault.Refused fault) → metadata_of text.now ≡ Err fault }
     {
-        let _alloc = alloc;
-        let _text = text;
-        Err(MetaReadFault::NoMemory)
+        match read_metadata(alloc, text) {
+            Ok(said) => Ok(Meta { said }),
+            Err(fault) => Err(fault),
+        }
     }
 
     /// Tells a proof what holds of all metadata that was read: its numbers are in range, and its filters fit their

@@ -7,6 +7,8 @@ mod members;
 mod naming;
 mod reading;
 mod reasons;
+#[cfg(test)]
+mod tests;
 mod values;
 
 pub use applying::{ApplyFault, apply};

@@ -1,0 +1,303 @@
+ghost use Rattle.std.specs.Prelude.{◌≡◌, ◌++◌, ◌∷◌, [], IfOk, OnOk, map, option_and_then, option_map, unwrap_or};
+ghost use Rattle.std.specs.List.{filter_map, enumerate_from};
+ghost use Rattle.std.specs.Option.{option_copied, option_to_list};
+ghost use Rattle.role_model.specs.MetadataFaults.{numbers_of, table_number, columns_of, table_def, link_def, link_defs, columns_by, grant_of, grant_for, role_def, role_names, session_names, meaning_of};
+
+use crate::faults::{json_in, table_by, table_place};
+use crate::json_filter::{column_place, number, read_filter};
+use crate::names::Names;
+use crate::mentions::{permission_of, role_names_of, session_names_of};
+use data_model::{Catalog, Column, ColumnDefList, ColumnList, TableDef, TableDefList};
+use role_model::{
+    Document, Grant, GrantList, LinkDef, LinkEntry, LinkList, LinkListList, Metadata,
+    PermissionEntry, RoleDef, RoleList, TableEntry,
+};
+use scalar_val::{NoMemory, Str};
+use std::alloc::Global;
+
+fn copy_columns(alloc: Global, columns: &[Column]) -> Result<ColumnDefList, NoMemory>
+    ensures { IfOk result (λ copy. copy ≡ columns.now) }
+{
+    let mut copy = ColumnDefList::new(alloc);
+    for column in columns {
+        let column = Column {
+            name: Str::of(alloc, column.name.as_str())?,
+            kind: column.kind,
+            nullable: column.nullable,
+        };
+        copy.push(column).map_err(|_| NoMemory)?;
+    }
+    Ok(copy)
+}
+
+fn numbers(alloc: Global, columns: &[Column], names: &[Str]) -> Result<ColumnList, NoMemory>
+    ensures { IfOk result (λ ns. ns ≡ numbers_of columns.now names.now) }
+{
+    let mut found = ColumnList::new(alloc);
+    for name in names {
+        let at = number(column_place(columns, name.as_str()))?;
+        found.push(at).map_err(|_| NoMemory)?;
+    }
+    Ok(found)
+}
+
+fn numbers_in(
+    alloc: Global,
+    table: Option<&TableEntry>,
+    names: &[Str],
+) -> Result<ColumnList, NoMemory>
+    ensures { IfOk result (λ ns. ns ≡ numbers_of (columns_by (option_copied table.entry)) names.now) }
+{
+    match table {
+        Some(table) => numbers(alloc, table.columns.as_slice(), names),
+        None => numbers(alloc, &[], names),
+    }
+}
+
+fn table_of(alloc: Global, table: &TableEntry) -> Result<TableDef, NoMemory>
+    ensures { IfOk result (λ t. t ≡ table_def table.now) }
+{
+    let name = Str::of(alloc, table.name.as_str())?;
+    let columns = copy_columns(alloc, table.columns.as_slice())?;
+    let key = numbers(alloc, table.columns.as_slice(), table.key.as_slice())?;
+    let unique = numbers(alloc, table.columns.as_slice(), table.unique.as_slice())?;
+    Ok(TableDef {
+        name,
+        columns,
+        key,
+        unique,
+        max_rows: table.max_rows,
+    })
+}
+
+fn tables_of(alloc: Global, tables: &[TableEntry]) -> Result<TableDefList, NoMemory>
+    ensures { IfOk result (λ ts. ts ≡ map table_def tables.now) }
+{
+    let mut found = TableDefList::new(alloc);
+    for table in tables {
+        let table = table_of(alloc, table)?;
+        found.push(table).map_err(|_| NoMemory)?;
+    }
+    Ok(found)
+}
+
+/// The number of the table that a relationship leads to.
+fn target(tables: &[TableEntry], link: &LinkEntry) -> Result<u32, NoMemory>
+    ensures { IfOk result (λ n. n ≡ unwrap_or (table_number tables.now link.now.table) 0) }
+{
+    number(table_place(tables, link.table.as_str()))
+}
+
+/// The columns there.
+fn target_columns(
+    alloc: Global,
+    tables: &[TableEntry],
+    link: &LinkEntry,
+) -> Result<ColumnList, NoMemory>
+    ensures { IfOk result (λ ns. ns ≡ numbers_of (columns_of tables.now link.now.table) link.now.to) }
+{
+    let table = table_by(tables, link.table.as_str());
+    numbers_in(alloc, table, link.to.as_slice())
+}
+
+fn link_of(
+    alloc: Global,
+    tables: &[TableEntry],
+    table: &TableEntry,
+    many: bool,
+    link: &LinkEntry,
+) -> Result<LinkDef, NoMemory>
+    ensures { IfOk result (λ l. l ≡ link_def tables.now table.now many link.now) }
+{
+    let name = Str::of(alloc, link.name.as_str())?;
+    let target = target(tables, link)?;
+    let from = numbers(alloc, table.columns.as_slice(), link.from.as_slice())?;
+    let to = target_columns(alloc, tables, link)?;
+    Ok(LinkDef {
+        name,
+        many,
+        table: target,
+        from,
+        to,
+    })
+}
+
+fn push_link(
+    alloc: Global,
+    found: &mut LinkList,
+    tables: &[TableEntry],
+    table: &TableEntry,
+    many: bool,
+    link: &LinkEntry,
+) -> Result<(), NoMemory>
+    ensures { OnOk result (found.new ≡ found.old ++ link_def tables.now table.now many link.now ∷ []) }
+{
+    let link = link_of(alloc, tables, table, many, link)?;
+    match found.push(link) {
+        Ok(()) => Ok(()),
+        Err(_back) => Err(NoMemory),
+    }
+}
+
+fn push_links(
+    alloc: Global,
+    found: &mut LinkList,
+    tables: &[TableEntry],
+    table: &TableEntry,
+    many: bool,
+    links: &[LinkEntry],
+) -> Result<(), NoMemory>
+    ensures { OnOk result (found.new ≡ found.old ++ map (link_def tables.now table.now many) links.now) }
+{
+    for link in links {
+        push_link(alloc, found, tables, table, many, link)?;
+    }
+    Ok(())
+}
+
+fn links_of(alloc: Global, tables: &[TableEntry], table: &TableEntry) -> Result<LinkList, NoMemory>
+    ensures { IfOk result (λ ls. ls ≡ link_defs tables.now table.now) }
+{
+    let mut found = LinkList::new(alloc);
+    push_links(
+        alloc,
+        &mut found,
+        tables,
+        table,
+        false,
+        table.object.as_slice(),
+    )?;
+    push_links(
+        alloc,
+        &mut found,
+        tables,
+        table,
+        true,
+        table.array.as_slice(),
+    )?;
+    Ok(found)
+}
+
+fn links_of_all(alloc: Global, tables: &[TableEntry]) -> Result<LinkListList, NoMemory>
+    ensures { IfOk result (λ ls. ls ≡ map (link_defs tables.now) tables.now) }
+{
+    let mut found = LinkListList::new(alloc);
+    for table in tables {
+        let links = links_of(alloc, tables, table)?;
+        found.push(links).map_err(|_| NoMemory)?;
+    }
+    Ok(found)
+}
+
+fn grant_by(
+    alloc: Global,
+    names: &Names,
+    at: usize,
+    table: &TableEntry,
+    permission: &PermissionEntry,
+) -> Result<Option<Grant>, NoMemory>
+    ensures { IfOk result (λ g. g ≡ grant_of names.now at table.now permission.now) }
+{
+    let at = number(Some(at))?;
+    let columns = numbers(
+        alloc,
+        table.columns.as_slice(),
+        permission.columns.as_slice(),
+    )?;
+    let value = json_in(alloc, permission.filter.as_str())?;
+    match read_filter(alloc, table.columns.as_slice(), names, &value)? {
+        Some(filter) => Ok(Some(Grant {
+            table: at,
+            columns,
+            filter,
+            limit: permission.limit,
+        })),
+        None => Ok(None),
+    }
+}
+
+fn grant_in(
+    alloc: Global,
+    role: &str,
+    names: &Names,
+    at: usize,
+    table: &TableEntry,
+) -> Result<Option<Grant>, NoMemory>
+    ensures { IfOk result (λ g. g ≡ grant_for role.now names.now (at, table.now)) }
+{
+    match permission_of(table, role) {
+        Some(permission) => grant_by(alloc, names, at, table, permission),
+        None => Ok(None),
+    }
+}
+
+fn push_grant(grants: &mut GrantList, grant: Option<Grant>) -> Result<(), NoMemory>
+    ensures { OnOk result (grants.new ≡ grants.old ++ option_to_list grant) }
+{
+    match grant {
+        Some(grant) => match grants.push(grant) {
+            Ok(()) => Ok(()),
+            Err(_back) => Err(NoMemory),
+        },
+        None => Ok(()),
+    }
+}
+
+fn grants_of(
+    alloc: Global,
+    tables: &[TableEntry],
+    role: &str,
+    names: &Names,
+) -> Result<GrantList, NoMemory>
+    ensures { IfOk result (λ gs. gs ≡ filter_map (grant_for role.now names.now) (enumerate_from 0 tables.now)) }
+{
+    let mut grants = GrantList::new(alloc);
+    for at in 0..tables.len() {
+        let grant = grant_in(alloc, role, names, at, &tables[at])?;
+        push_grant(&mut grants, grant)?;
+    }
+    Ok(grants)
+}
+
+fn role_of(alloc: Global, tables: &[TableEntry], role: &str) -> Result<RoleDef, NoMemory>
+    ensures { IfOk result (λ r. r ≡ role_def tables.now role.now) }
+{
+    let name = Str::of(alloc, role)?;
+    let session_names = session_names_of(alloc, tables, role)?;
+    let grants = grants_of(alloc, tables, role, &session_names)?;
+    Ok(RoleDef {
+        name,
+        session_names: session_names.into_texts(),
+        grants,
+    })
+}
+
+fn roles_of(alloc: Global, tables: &[TableEntry], names: &[Str]) -> Result<RoleList, NoMemory>
+    ensures { IfOk result (λ rs. rs ≡ map (role_def tables.now) names.now) }
+{
+    let mut roles = RoleList::new(alloc);
+    for name in names {
+        let role = role_of(alloc, tables, name.as_str())?;
+        roles.push(role).map_err(|_| NoMemory)?;
+    }
+    Ok(roles)
+}
+
+/// What metadata says, where nothing is wrong with it.
+pub fn read_meaning(alloc: Global, document: Document) -> Result<Metadata, NoMemory>
+    ensures { IfOk result (λ m. m ≡ meaning_of document) }
+{
+    let tables = tables_of(alloc, document.tables.as_slice())?;
+    let links = links_of_all(alloc, document.tables.as_slice())?;
+    let names = role_names_of(alloc, document.tables.as_slice())?;
+    let roles = roles_of(alloc, document.tables.as_slice(), names.texts())?;
+    Ok(Metadata {
+        catalog: Catalog { tables },
+        links,
+        roles,
+        batch_size: document.batch_size,
+        refetch_ms: document.refetch_ms,
+        secret: document.admin_secret,
+        unauthorized_role: document.unauthorized_role,
+    })
+}
