@@ -13,6 +13,7 @@ use Rattle.role_model.specs.declared.filter.Filter.TheVariants as filter
 use Rattle.role_model.specs.declared.filter.Op.TheVariants as compare
 use Rattle.role_model.specs.declared.filter.Operand.TheVariants as operand
 use Rattle.role_model.specs.declared.filter.Slot.TheVariants.{One, Many}
+use Rattle.role_model.specs.declared.metadata.LinkDef.{LinkDef}
 use Rattle.role_model.specs.declared.metadata.Metadata.{Metadata}
 use Rattle.role_model.specs.declared.metadata.RoleDef.{RoleDef}
 use Rattle.role_model.specs.Roles.{View}
@@ -30,6 +31,7 @@ use Rattle.request_model.specs.declared.flat.FlatField.{FlatField}
 use Rattle.request_model.specs.declared.flat.Flat.{Flat}
 use Rattle.request_model.specs.declared.flat.Word.TheVariants as word
 use Rattle.request_model.specs.Strings.{Text}
+use Rattle.request_model.specs.Canonical.{canonical}
 use Rattle.request_model.proofs.SelectionRules.{canonical_texts}
 use Rattle.query_model.specs.declared.fault.FaultKind.{FaultKind}
 use Rattle.query_model.specs.declared.fault.FaultKind.TheVariants as fault
@@ -145,12 +147,12 @@ clerk_view = record { metadata = clerks; role = codes "clerk" }
 
 slots : selection_slots clerk_view (titles []) ≡
     record { name = codes "x-hasura-id"; kind = kind.Int } ∷ record { name = codes "x-hasura-id"; kind = kind.Text } ∷ record { name = codes "x-hasura-tag"; kind = kind.Text } ∷ []
-slots = simp (queries, canonical_texts)
+slots = simp queries
 
 sessions : map (λ vars. by_clerk vars (titles []))
     ([] ∷ ((codes "x-hasura-tag", []) ∷ []) ∷ ((codes "x-hasura-id", codes "a") ∷ []) ∷ ((codes "x-hasura-id", codes "1") ∷ []) ∷ ((codes "x-hasura-id", codes "1") ∷ (codes "x-hasura-tag", []) ∷ []) ∷ []) ≡
     refuses fault.MissingSession (codes "x-hasura-id") ∷ refuses fault.MissingSession (codes "x-hasura-id") ∷ refuses fault.BadSession (codes "x-hasura-id") ∷ refuses fault.MissingSession (codes "x-hasura-tag") ∷ None ∷ []
-sessions = simp (queries, canonical_texts)
+sessions = simp queries
 
 -- hidden: the key, a column in `where` and in `order_by`, a relationship to an unseen table, that table, a hidden cursor
 hidden : map (by_clerk [])
@@ -170,7 +172,7 @@ in_query f = refused_with (admitted users admin no_members (record { kind = word
 
 roots : map in_query (node (codes "user_stream") [] id ∷ leaf (codes "__typename") ∷ leaf (codes "user") ∷ node (codes "user") [] [] ∷ []) ≡
     refuses fault.NoField (codes "user_stream") ∷ refuses fault.NoField (codes "__typename") ∷ refuses fault.WrongType (codes "user") ∷ None ∷ []
-roots = simp (queries, canonical_texts)
+roots = simp queries
 
 -- the root's type conditions come before its field, and an object's behind its arguments
 abbrev with_conditions : List Text → FlatField → Option QueryFault
@@ -178,7 +180,7 @@ with_conditions on f = refused_with (admitted users admin no_members (record { k
 
 conditions : with_conditions (codes "subscription_root" ∷ codes "query_root" ∷ []) (leaf (codes "nope")) ∷ with_conditions (codes "subscription_root" ∷ []) (leaf (codes "nope")) ∷ [] ≡
     refuses fault.NoField (codes "query_root") ∷ refuses fault.NoField (codes "nope") ∷ []
-conditions = simp (queries, canonical_texts)
+conditions = simp queries
 
 -- ---- variables of the text, in order of name, and equal plans
 
@@ -237,3 +239,60 @@ orders : map (λ order. (result posts (asked_by (codes "admin") (subscription []
     ∷ codes "{\"data\":{\"user\":[{\"id\":1},{\"id\":3},{\"id\":2}]}}" ∷ []
 unfolding digits escape_byte
 orders = simp (queries, truths, canonical_texts)
+
+-- ---- the first of several matches, and what a permission's limit isn't for
+
+-- a user's first post; the guest is given no post at a time, and none of title z
+abbrev first_post : LinkDef
+first_post = record { name = codes "first_post"; many = false; table = 1; from = 0 ∷ []; to = 1 ∷ [] }
+
+abbrev guest : RoleDef
+guest = record {
+  name = codes "guest"; session_names = [];
+  grants =
+    record { table = 0; columns = 0 ∷ []; limit = Some 1; filter = filter.And [] }
+    ∷ record { table = 1; columns = 0 ∷ 2 ∷ []; limit = Some 0; filter = filter.And (filter.Cmp 2 compare.Lt (operand.Const (text (codes "z"))) ∷ []) } ∷ [] }
+
+abbrev guests : Metadata
+guests = metadata (user_table ∷ post_table ∷ []) ((posts_link ∷ first_post ∷ []) ∷ (author_link ∷ []) ∷ []) (guest ∷ [])
+
+abbrev guest_posts : Database
+guest_posts =
+    ((int 1 ∷ val.Null ∷ []) ∷ (int 2 ∷ val.Null ∷ []) ∷ (int 3 ∷ val.Null ∷ []) ∷ [])
+    ∷ (post 4 (int 2) (codes "z") ∷ post 5 (int 2) (codes "b") ∷ post 6 (int 2) (codes "a") ∷ []) ∷ []
+
+-- user(where: {id: {_eq: 2}}) { first_post { id } posts { id } }, post_by_pk(id: 5) { id } and post_by_pk(id: 4) { id }
+firsts : map (λ f. (result guests (record { kind = sub.Live; role = codes "guest"; selection = subscription [] f; variables = []; session = [] }) val.Null guest_posts).text)
+    (node (codes "user") (pair (codes "where") (one (codes "id") (one (codes "_eq") (v.Int (codes "2")))) ∷ []) (node (codes "first_post") [] id ∷ node (codes "posts") [] id ∷ [])
+    ∷ node (codes "post_by_pk") (pair (codes "id") (v.Int (codes "5")) ∷ []) id
+    ∷ node (codes "post_by_pk") (pair (codes "id") (v.Int (codes "4")) ∷ []) id ∷ []) ≡
+    codes "{\"data\":{\"user\":[{\"first_post\":{\"id\":5},\"posts\":[]}]}}" ∷ codes "{\"data\":{\"post_by_pk\":{\"id\":5}}}" ∷ codes "{\"data\":{\"post_by_pk\":null}}" ∷ []
+unfolding digits escape_byte
+firsts = simp (queries, truths, canonical_texts)
+
+-- ---- a stream that goes down, of a role that is given one row at a time
+
+abbrev down : Flat
+down = subscription [] (node (codes "user_stream")
+    (pair (codes "batch_size") (v.Int (codes "5")) ∷ cursor_of (pair (codes "ordering") (v.Enum (codes "DESC")) ∷ initial (v.Int (codes "9")) ∷ []) ∷ []) id)
+
+goes_down : map (λ n. result guests (record { kind = sub.Stream; role = codes "guest"; selection = down; variables = []; session = [] }) (int n) guest_posts) (9 ∷ 3 ∷ 1 ∷ []) ≡
+    record { text = codes "{\"data\":{\"user_stream\":[{\"id\":3}]}}"; rows = 1; last = int 3 }
+    ∷ record { text = codes "{\"data\":{\"user_stream\":[{\"id\":2}]}}"; rows = 1; last = int 2 }
+    ∷ record { text = codes "{\"data\":{\"user_stream\":[]}}"; rows = 0; last = val.Null } ∷ []
+unfolding digits escape_byte
+goes_down = simp (queries, truths, canonical_texts)
+
+-- ---- a key column that is called cursor
+
+abbrev marks : Metadata
+marks = metadata (table (codes "mark") (column (codes "cursor") kind.Int false ∷ []) ∷ []) ([] ∷ []) []
+
+abbrev one_mark : Flat
+one_mark = subscription [] (node (codes "mark_by_pk") (pair (codes "cursor") (var (codes "c")) ∷ []) (leaf (codes "cursor") ∷ []))
+
+mark_variables : text_variables one_mark ≡ codes "c" ∷ []
+mark_variables = simp (queries, canonical_texts)
+
+mark_text : canonical one_mark ≡ codes "subscription mark_by_pk:mark_by_pk(cursor:$c){cursor:cursor}"
+mark_text = simp canonical_texts
