@@ -38,7 +38,9 @@ use Rattle.query_model.specs.declared.fault.FaultKind.TheVariants as fault
 use Rattle.query_model.specs.declared.fault.QueryFault.{QueryFault}
 use Rattle.query_model.specs.declared.kind.SubKind.TheVariants as sub
 use Rattle.query_model.specs.Queries.{Query, SessionSlot, selection_slots, text_variables}
-use Rattle.query_model.specs.Admission.{Admitted, admitted, refusal, Judged, judged as judged_value, judged_at, condition_step, key_fault, first_of}
+use Rattle.query_model.specs.Refusals.{refusal, first_of}
+use Rattle.query_model.specs.Walk.{Judged, judged as judged_value, judged_at, condition_step, key_fault}
+use Rattle.query_model.specs.Admission.{Admitted, admitted}
 use Rattle.query_model.specs.Variables.{Variable}
 use Rattle.query_model.specs.Plans.{plan_of}
 use Rattle.query_model.specs.Results.{result}
