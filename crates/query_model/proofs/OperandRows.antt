@@ -1,5 +1,5 @@
 -- Worked rows of operands from variables, of what a role sees, of session slots and of permission limits.
-use Rattle.std.proofs.Common.{◌≡◌, ◌∙◌, ap, sym, ℕ, Bool, List, [], ◌∷◌, map, Option, Some, None, Result, Ok, Err, true, false, refl, pos}
+use Rattle.std.proofs.Common.{◌≡◌, ℕ, Bool, List, [], ◌∷◌, map, Option, Some, None, Result, Ok, Err, true, false, refl, pos}
 use Rattle.std.specs.Prelude.{codes}
 use Rattle.std.specs.Fmt.{digits}
 use Rattle.json.specs.Print.{escape_byte}
@@ -21,8 +21,6 @@ use Rattle.role_model.specs.Texts.{Texts}
 use Rattle.role_model.proofs.Truths.{truths}
 use Rattle.request_model.specs.declared.document.GValue.{GValue}
 use Rattle.request_model.specs.declared.document.GValue.TheVariants as v
-use Rattle.request_model.specs.declared.document.GValue.TheVariants.{rolls-Many}
-use Rattle.request_model.specs.declared.document.GValue.TheFolds.{para-roll-GValue}
 use Rattle.request_model.specs.declared.document.GPair.{GPair}
 use Rattle.request_model.specs.declared.document.TypeRef.{TypeRef}
 use Rattle.request_model.specs.declared.document.TypeRef.TheVariants as type
@@ -38,10 +36,8 @@ use Rattle.query_model.specs.declared.fault.FaultKind.TheVariants as fault
 use Rattle.query_model.specs.declared.fault.QueryFault.{QueryFault}
 use Rattle.query_model.specs.declared.kind.SubKind.TheVariants as sub
 use Rattle.query_model.specs.Queries.{Query, SessionSlot, selection_slots, text_variables}
-use Rattle.query_model.specs.Refusals.{refusal, first_of}
-use Rattle.query_model.specs.Walk.{Judged, judged as judged_value, judged_at, condition_step, key_fault}
+use Rattle.query_model.specs.Refusals.{refusal}
 use Rattle.query_model.specs.Admission.{Admitted, admitted}
-use Rattle.query_model.specs.Variables.{Variable}
 use Rattle.query_model.specs.Plans.{plan_of}
 use Rattle.query_model.specs.Results.{result}
 use Rattle.query_model.proofs.QueryRules.{queries, plans}
@@ -113,17 +109,8 @@ twice_and = simp (queries, canonical_texts)
 posts_key : judged (pair (codes "where") (one (codes "posts") (v.Object [])) ∷ []) ≡ refuses fault.NoArgument (codes "posts")
 posts_key = simp (queries, canonical_texts)
 
--- a list of conditions is judged item by item
-module _ (vars : List Variable) (w : View) where
-  judged-several : (items : List GValue) (blamed : Text) (table : ℕ) →
-      (judged_value vars w (v.Many items)).many blamed table ≡ first_of (map (λ (x : GValue × Judged). x.1.one blamed table) (map (λ y. (y, judged_value vars w y)) items))
-  unfolding judged_value judged_at
-  judged-several items blamed table =
-      ap (λ (x : GValue). (judged_value vars w x).many blamed table) (sym (rolls-Many items))
-      ∙ ap (λ (j : Judged). j.many blamed table) (para-roll-GValue Judged (ℕ → Option QueryFault) (condition_step vars w) (key_fault vars w) _)
-
 or_list : judged (pair (codes "where") (one (codes "_or") (v.Many (v.Object [] ∷ v.Int (codes "1") ∷ []))) ∷ []) ≡ refuses fault.WrongType (codes "_or")
-or_list = simp (judged-several, queries, canonical_texts)
+or_list = simp (queries, canonical_texts)
 
 -- ---- what a role sees
 
