@@ -118,9 +118,16 @@ or_list = simp (queries, canonical_texts)
 -- stand several times; users it doesn't see.
 abbrev clerk : RoleDef
 clerk = record {
-  name = codes "clerk"; session_names = codes "x-hasura-tag" ∷ codes "x-hasura-id" ∷ [];
-  grants = record { table = 1; columns = 2 ∷ []; limit = Some 1; filter = filter.And (
-      filter.Cmp 2 compare.Eq (operand.Sess 0) ∷ filter.Cmp 2 compare.Eq (operand.Sess 1) ∷ filter.Cmp 0 compare.Gte (operand.Sess 1) ∷ filter.Cmp 2 compare.Eq (operand.Sess 0) ∷ []) } ∷ [] }
+  name = codes "clerk";
+  session_names = codes "x-hasura-tag" ∷ codes "x-hasura-id" ∷ [];
+  grants = record {
+    table = 1;
+    columns = 2 ∷ [];
+    limit = Some 1;
+    filter = filter.And (
+        filter.Cmp 2 compare.Eq (operand.Sess 0) ∷ filter.Cmp 2 compare.Eq (operand.Sess 1) ∷ filter.Cmp 0 compare.Gte (operand.Sess 1) ∷ filter.Cmp 2 compare.Eq (operand.Sess 0) ∷ []);
+  } ∷ [];
+}
 
 abbrev clerks : Metadata
 clerks = metadata (user_table ∷ post_table ∷ []) ((posts_link ∷ []) ∷ (author_link ∷ []) ∷ []) (clerk ∷ [])
@@ -201,10 +208,16 @@ one_plan = simp (queries, canonical_texts)
 -- ---- limits of a permission, nulls and ties
 
 abbrev asked_by : Text → Flat → Query
-asked_by role s = record { kind = sub.Live; role = role; selection = s; variables = []; session =
-    record { slot = record { name = codes "x-hasura-id"; kind = kind.Int }; value = int 1 }
-    ∷ record { slot = record { name = codes "x-hasura-id"; kind = kind.Text }; value = text (codes "1") }
-    ∷ record { slot = record { name = codes "x-hasura-tag"; kind = kind.Text }; value = text (codes "1") } ∷ [] }
+asked_by role s = record {
+  kind = sub.Live;
+  role = role;
+  selection = s;
+  variables = [];
+  session =
+      record { slot = record { name = codes "x-hasura-id"; kind = kind.Int }; value = int 1 }
+      ∷ record { slot = record { name = codes "x-hasura-id"; kind = kind.Text }; value = text (codes "1") }
+      ∷ record { slot = record { name = codes "x-hasura-tag"; kind = kind.Text }; value = text (codes "1") } ∷ [];
+}
 
 abbrev four_posts : Database
 four_posts =
@@ -237,10 +250,12 @@ first_post = record { name = codes "first_post"; many = false; table = 1; from =
 
 abbrev guest : RoleDef
 guest = record {
-  name = codes "guest"; session_names = [];
+  name = codes "guest";
+  session_names = [];
   grants =
-    record { table = 0; columns = 0 ∷ []; limit = Some 1; filter = filter.And [] }
-    ∷ record { table = 1; columns = 0 ∷ 2 ∷ []; limit = Some 0; filter = filter.And (filter.Cmp 2 compare.Lt (operand.Const (text (codes "z"))) ∷ []) } ∷ [] }
+      record { table = 0; columns = 0 ∷ []; limit = Some 1; filter = filter.And [] }
+      ∷ record { table = 1; columns = 0 ∷ 2 ∷ []; limit = Some 0; filter = filter.And (filter.Cmp 2 compare.Lt (operand.Const (text (codes "z"))) ∷ []) } ∷ [];
+}
 
 abbrev guests : Metadata
 guests = metadata (user_table ∷ post_table ∷ []) ((posts_link ∷ first_post ∷ []) ∷ (author_link ∷ []) ∷ []) (guest ∷ [])
