@@ -51,7 +51,7 @@ negative_limit = simp (queries, canonical_texts)
 null_operand : admitted users admin no_members (subscription [] (node (codes "user") (pair (codes "where") (one (codes "id") (one (codes "_eq") v.Null)) ∷ []) id)) ≡ refuses fault.NullOperand (codes "id")
 null_operand = simp (queries, canonical_texts)
 
--- subscription($i: Int!) { user_by_pk(id: $i) { id name } }, without variables
+-- subscription($i: Int!) { user_by_pk(id: $i) { id } }, without variables
 missing_variable : admitted users admin no_members
     (subscription (record { name = codes "i"; kind = type.Named (codes "Int") true; default = None; directives = [] } ∷ [])
     (node (codes "user_by_pk") (pair (codes "id") (v.Var (codes "i")) ∷ []) id)) ≡ refuses fault.MissingVariable (codes "i")

@@ -6,3 +6,4 @@ mod UsualClient
 mod PlanRows
 mod VariableRows
 mod StreamRows
+mod OperandRows

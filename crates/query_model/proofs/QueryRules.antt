@@ -32,7 +32,7 @@ use Rattle.request_model.specs.Strings.{Text}
 use Rattle.request_model.specs.Selection.{concatenated}
 use Rattle.query_model.specs.declared.fault.QueryFault.{QueryFault}
 use Rattle.query_model.specs.Conditions.{Reader, Conditions, conditions_in, condition_at, conditions_step, key_filter}
-use Rattle.query_model.specs.Refusals.{refused}
+use Rattle.query_model.specs.Refusals.{refused, first_of}
 use Rattle.query_model.specs.Walk.{Judged, judged, judged_at, condition_step, key_fault, keys_fault}
 use Rattle.query_model.specs.declared.fault.FaultKind.TheVariants as fault
 use Rattle.query_model.specs.Variables.{Variable}
@@ -132,6 +132,14 @@ module _ (vars : List Variable) (w : View) where
       ap (λ (x : GValue). (judged vars w x).one blamed table) (sym (rolls-Many items))
       ∙ ap (λ (c : Judged). c.one blamed table) (para-roll-GValue Judged (ℕ → Option QueryFault) (condition_step vars w) (key_fault vars w) _)
 
+  -- a list of conditions, item by item
+  pub judged-several : (items : List GValue) (blamed : Text) (table : ℕ) →
+      (judged vars w (v.Many items)).many blamed table ≡ first_of (map (λ (x : GValue × Judged). x.1.one blamed table) (map (λ y. (y, judged vars w y)) items))
+  unfolding judged
+  judged-several items blamed table =
+      ap (λ (x : GValue). (judged vars w x).many blamed table) (sym (rolls-Many items))
+      ∙ ap (λ (c : Judged). c.many blamed table) (para-roll-GValue Judged (ℕ → Option QueryFault) (condition_step vars w) (key_fault vars w) _)
+
   -- as a list of conditions
   pub judged-many-null : (blamed : Text) (table : ℕ) → (judged vars w v.Null).many blamed table ≡ refused fault.WrongType blamed
   unfolding judged
@@ -196,4 +204,4 @@ module _ {A : Type 0} (step : Field-F (ℕ → Row → A) ((Row → Bool) → A)
 
 pub ruleset plans = (field-Column, field-Typename, field-Link, select-rolled, out-roll-Select)
 
-pub ruleset queries = (outs-Named, outs-Listed, fold-in, fold-at, out-roll-FlatField, filter-And, filter-Or, filter-Cmp, object-one, key-is, judged-object, judged-key, judged-Var, judged-Int, judged-Many, judged-many-null, names-Var, names-Int, names-Null, names-Enum, names-Many, names-Object, names-pair)
+pub ruleset queries = (outs-Named, outs-Listed, fold-in, fold-at, out-roll-FlatField, filter-And, filter-Or, filter-Cmp, object-one, key-is, judged-object, judged-key, judged-Var, judged-Int, judged-Many, judged-several, judged-many-null, names-Var, names-Int, names-Null, names-Enum, names-Many, names-Object, names-pair)

@@ -30,7 +30,7 @@ use Rattle.query_model.specs.declared.kind.SubKind.TheVariants as sub
 use Rattle.query_model.specs.Names.{Root, RowsOf, RowOf, StreamOf, NoRoot, initial_column, descends, type_name}
 use Rattle.query_model.specs.Queries.{Query, SamePoller, SameCohort, binding_of, root_of, view_of}
 use Rattle.query_model.specs.Admission.{Admitted, admitted, Admits}
-use Rattle.query_model.specs.Taken.{taken, rows_cmp, along, is_beyond}
+use Rattle.query_model.specs.Taken.{taken, rows_cmp, along, is_beyond, last_row}
 use Rattle.query_model.specs.Results.{result, is_asked, is_permitted, stream_wanted}
 use Rattle.query_model.specs.Plans.{planned, plan_of, PlanFits, BindingFits}
 
@@ -111,10 +111,10 @@ stream_of m q = stream_in m q q.selection.fields
 abbrev pub next_rows : Metadata → Query → Stream → Val → Database → Rows
 next_rows m q s cursor db = taken db (stream_wanted m q cursor s.table s.args)
 
+-- the value in the last row that is sent, or the cursor as it was
 abbrev pub cursor_after : Stream → Val → Rows → Val
 cursor_after s cursor [] = cursor
-cursor_after s cursor (r ∷ []) = cell r s.column
-cursor_after s cursor (r ∷ t ∷ rs) = cursor_after s cursor (t ∷ rs)
+cursor_after s cursor (r ∷ rs) = cell (last_row (r ∷ rs)) s.column
 
 module _ (m : Metadata) (q : Query) (s : Stream) (txs : List (List TxChange)) where
   abbrev pub database_at : ℕ → Database

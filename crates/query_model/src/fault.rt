@@ -22,15 +22,15 @@ pub enum FaultKind {
     NotBoolean,
     /// There is a field at level 13, or there are more than 4,096 fields.
     TooLarge,
-    /// Two definitions share a name, or two fields of one response key differ.
+    /// Two operations, two fragments or two variables share a name, or two fields of one response key differ.
     Conflict,
     /// The root has not exactly one field.
     NotOneRoot,
-    /// A variable isn't declared, or is null where its type or its place doesn't allow that.
+    /// A variable isn't declared, or is null where its type doesn't allow that.
     MissingVariable,
     /// A type isn't served, or a value isn't of the type that is wanted.
     WrongType,
-    /// The role sees no such field.
+    /// The role sees no such field, or a type condition isn't the type of its object.
     NoField,
     /// An argument or a key isn't known, stands twice, or is missing.
     NoArgument,

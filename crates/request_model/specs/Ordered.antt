@@ -1,4 +1,4 @@
--- Lists in order.
+-- Lists in ascending order, where elements that tie stay as they stood. This project's own.
 use Rattle.std.specs.Prelude.{List, [], ◌∷◌, if◌then◌else◌}
 use Rattle.std.specs.Ordering.{is_le, match_ordering}
 use Rattle.std.specs.declared.cmp.Ordering.{Ordering}
