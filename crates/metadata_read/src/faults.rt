@@ -546,7 +546,11 @@ pub fn json_in(alloc: Global, text: &str) -> Result<Value, NoMemory>
 }
 
 /// A filter with no session variables' slots.
-fn read_bare_filter(alloc: Global, columns: &[Column], value: &Value) -> Result<Option<Filter>, NoMemory>
+fn read_bare_filter(
+    alloc: Global,
+    columns: &[Column],
+    value: &Value,
+) -> Result<Option<Filter>, NoMemory>
     ensures { IfOk result (λ o. o ≡ filter_of columns.now [] (json_view value.now)) }
 {
     let names = Names::new(alloc);

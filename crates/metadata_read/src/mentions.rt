@@ -40,11 +40,7 @@ fn push_mentions_by(
 }
 
 /// The session variables that a role's filters name, each once.
-pub fn session_names_of(
-    alloc: Global,
-    tables: &[TableEntry],
-    role: &str,
-) -> Result<Names, NoMemory>
+pub fn session_names_of(alloc: Global, tables: &[TableEntry], role: &str) -> Result<Names, NoMemory>
     ensures { IfOk result (λ names. names ≡ session_names tables.now role.now) }
 {
     let mut names = Names::new(alloc);
@@ -54,11 +50,7 @@ pub fn session_names_of(
     Ok(names)
 }
 
-fn push_roles(
-    alloc: Global,
-    select: &[PermissionEntry],
-    names: &mut Names,
-) -> Result<(), NoMemory>
+fn push_roles(alloc: Global, select: &[PermissionEntry], names: &mut Names) -> Result<(), NoMemory>
     ensures { OnOk result (names.new ≡ fold with_text names.old (map (λ p. p.role) select.now)) }
 {
     for permission in select {

@@ -93,7 +93,6 @@ slot_within : (names : List Text) (name : Text) → list_any (bytes_eq name) nam
 slot_within names name h = let f = first (bytes_eq name) names h in rw f.placed f.within
 
 module _ (columns : List Column) (names : List Text) (b : Binding) (enough : length names ≤ length b.session) where
-
   -- nothing is asked of what isn't there
 
   abbrev OperandFits : Option Operand → Type 0
@@ -265,7 +264,7 @@ module _ (columns : List Column) (names : List Text) (b : Binding) (enough : len
     pairs_fit (json.member name d ms) k =
         let parts = out_parts (λ x. list_any (bytes_eq x) names ≡ true) (mentions d) (mentions_of_members ms) k in
         one_more (pair_of name (filter_of columns names d) (filters_of columns names d) (column_condition columns names name d)) (pairs_of columns names ms)
-            (pair_fits name (filter_of columns names d) (filters_of columns names d) (column_condition columns names name d) (filter_fits d parts.0) (filters_fit d parts.0) (condition_fits name d parts.0)) (pairs_fit ms parts.1)
+        (pair_fits name (filter_of columns names d) (filters_of columns names d) (column_condition columns names name d) (filter_fits d parts.0) (filters_fit d parts.0) (condition_fits name d parts.0)) (pairs_fit ms parts.1)
 
   fits_from : (o : Option Filter) (f : Filter) → Fits o → o ≡ Some f → fits (length columns) b f ≡ true
   fits_from (Some g) f h e = subst (λ (g : Filter). fits (length columns) b g ≡ true) (ap (λ o. unwrap_or o g) e) h

@@ -89,7 +89,7 @@ in_range columns (name ∷ names) h =
     let parts = or_false (not (has_column columns name)) (lacks_a_column columns names) h in
     let f = column_found columns name parts.0 in
     and_true (nat_lt (unwrap_or (column_number columns name) 0) (length columns)) (list_all (is_column columns) (numbers_of columns names))
-        (rw f.placed (is_below f.place (length columns) f.within)) (in_range columns names parts.1)
+    (rw f.placed (is_below f.place (length columns) f.within)) (in_range columns names parts.1)
 
 kinds_same : (columns : List Column) (names : List Text) → lacks_a_column columns names ≡ false → map (kind_at columns) (numbers_of columns names) ≡ map (kind_in columns) names
 kinds_same columns [] h = refl
@@ -122,7 +122,7 @@ never_null columns all [] h k l = refl
 never_null columns all (name ∷ names) h k l =
     let parts = or_false (not (has_column columns name)) (lacks_a_column columns names) l in
     and_true (is_never_null (slice_get columns (unwrap_or (column_number columns name) 0))) (list_all (λ c. is_never_null (slice_get columns c)) (numbers_of columns names))
-        (never_null_at columns all name h k.0 parts.0) (never_null columns all names h k.1 parts.1)
+    (never_null_at columns all name h k.0 parts.0) (never_null columns all names h k.1 parts.1)
 
 -- Tables: each has its form and none of the faults.
 
@@ -189,7 +189,7 @@ link_sound tables t many l form linked named kinds =
     let at : unwrap_or (table_number tables l.table) 0 ≡ f.place = rw f.placed refl in
     let there : columns_of tables l.table ≡ f.item.columns = rw f.found refl in
     let same_columns : columns_at (map table_def tables) (unwrap_or (table_number tables l.table) 0) ≡ columns_of tables l.table =
-          ap (columns_at (map table_def tables)) at ∙ columns_there tables f.place f.item f.stands ∙ sym there in
+    ap (columns_at (map table_def tables)) at ∙ columns_there tables f.place f.item f.stands ∙ sym there in
     let n = or_false (lacks_a_column t.columns l.from) (lacks_a_column (columns_of tables l.table) l.to) named in
     record {
       table = rw (at, length-map tables table_def) f.within;
@@ -219,7 +219,7 @@ table_links tables t r =
     let y = none_in_parts (link_lacks_a_column tables t) t.object t.array n.links in
     let z = none_in_parts (links_other_kinds tables t) t.object t.array k.1 in
     out_append (SoundLink (map table_def tables) t.columns) (map (link_def tables t false) t.object) (map (link_def tables t true) t.array)
-        (links_each tables t false t.object r.form.object x.0 y.0 z.0) (links_each tables t true t.array r.form.array x.1 y.1 z.1)
+    (links_each tables t false t.object r.form.object x.0 y.0 z.0) (links_each tables t true t.array r.form.array x.1 y.1 z.1)
 
 all_links : (tables ts : List TableEntry) → AllByRecursion (Right tables) ts → SoundLinks (map table_def tables) (map table_def ts) (map (link_defs tables) ts)
 all_links tables [] h = tt
@@ -240,6 +240,7 @@ put y found = put_by (list_any (bytes_eq y) found) refl
     last : (b : Bool) → (b || true) ≡ true
     last true = refl
     last false = refl
+
     put_by : (b : Bool) → list_any (bytes_eq y) found ≡ b → list_any (bytes_eq y) (if b then found else found ++ y ∷ []) ≡ true
     put_by true e = e
     put_by false e = rw (list_any-append (bytes_eq y) found (y ∷ []), own_text y) (last (list_any (bytes_eq y) found))
@@ -269,6 +270,7 @@ grant_sound tables names at t p g here within named known e = by (filter_of t.co
       columns = rw (columns_there tables at t here) (in_range t.columns p.columns named);
       filter = λ b enough. rw (columns_there tables at t here) (read_fits t.columns names b enough (json_of p.filter) f known h);
     }
+
     by : (o : Option Filter) → filter_of t.columns names (json_of p.filter) ≡ o → option_map (λ (f : Filter). record { table = at; columns = numbers_of t.columns p.columns; filter = f; limit = p.limit }) o ≡ Some g → SoundGrant (map table_def tables) names g
     by (Some f) h e = subst (SoundGrant (map table_def tables) names) (same _ g e) (made f h)
     by None h e = cc
@@ -289,10 +291,11 @@ grants_each tables names role n (t ∷ ts) at r known =
     let first_at : slice_get tables n ≡ Some t = subst (λ k. slice_get tables k ≡ Some t) (n_zero n) (at 0 t refl) in
     let others : (i : ℕ) (u : TableEntry) → slice_get ts i ≡ Some u → slice_get tables ((n + 1) + i) ≡ Some u = λ i u e. subst (λ k. slice_get tables k ≡ Some u) (n_suc n i) (at (suc i) u e) in
     consed (SoundGrant (map table_def tables) names) (grant_for role names (n, t)) (filter_map (grant_for role names) (enumerate_from (n + 1) ts))
-        (grant_of_table tables names role n t first_at r.0 known.0) (grants_each tables names role (n + 1) ts others r.1 known.1)
+    (grant_of_table tables names role n t first_at r.0 known.0) (grants_each tables names role (n + 1) ts others r.1 known.1)
   where
     n_zero : (n : ℕ) → n + 0 ≡ n
     n_zero n = omega arith
+
     n_suc : (n i : ℕ) → n + suc i ≡ (n + 1) + i
     n_suc n i = omega arith
 

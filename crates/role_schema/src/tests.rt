@@ -70,14 +70,31 @@ fn keys_and_values_have_their_forms(rt: HostRuntime) {
         ("version = 1.0\ntables = []\n", MetaFault::BadForm),
         ("version = 1\ntables = []\nsize = 1\n", MetaFault::BadForm),
         ("version = 1\ntables = [1]\n", MetaFault::BadForm),
-        ("version = 1\ntables = []\nbatch_size = 0\n", MetaFault::BadForm),
-        ("version = 1\ntables = []\nbatch_size = 1001\n", MetaFault::BadForm),
-        ("version = 1\ntables = []\nrefetch_ms = 3600001\n", MetaFault::BadForm),
-        ("version = 1\ntables = []\nunauthorized_role = \"\"\n", MetaFault::BadForm),
+        (
+            "version = 1\ntables = []\nbatch_size = 0\n",
+            MetaFault::BadForm,
+        ),
+        (
+            "version = 1\ntables = []\nbatch_size = 1001\n",
+            MetaFault::BadForm,
+        ),
+        (
+            "version = 1\ntables = []\nrefetch_ms = 3600001\n",
+            MetaFault::BadForm,
+        ),
+        (
+            "version = 1\ntables = []\nunauthorized_role = \"\"\n",
+            MetaFault::BadForm,
+        ),
     ] {
         assert!(rt; refusal(alloc, text) == Some(want), "{text}");
     }
-    assert!(rt; is_read(alloc, "version = 1\ntables = []\nbatch_size = 1000\nrefetch_ms = 3600000\nadmin_secret = \"\"\nunauthorized_role = \"admin\"\n"));
+    assert!(rt;
+        is_read(
+            alloc,
+            "version = 1\ntables = []\nbatch_size = 1000\nrefetch_ms = 3600000\nadmin_secret = \"\"\nunauthorized_role = \"admin\"\n"
+        )
+    );
     assert!(rt; is_read(alloc, TWO_TABLES));
 }
 
@@ -85,52 +102,130 @@ fn keys_and_values_have_their_forms(rt: HostRuntime) {
 fn names_and_relationships_have_their_faults(rt: HostRuntime) {
     let alloc = rt.alloc();
     for (lines, want) in [
-        ("key = [\"id\"]\n[[tables]]\nname = \"__a\"\nkey = [\"b\"]\ncolumns = [{ name = \"b\", type = \"int\" }]\n", MetaFault::BadName),
-        ("key = [\"id\"]\nobject = [{ name = \"a b\", table = \"user\", from = [\"id\"], to = [\"id\"] }]\n", MetaFault::BadName),
-        ("key = [\"id\"]\nobject = [{ name = \"id\", table = \"user\", from = [\"id\"], to = [\"id\"] }]\n", MetaFault::Duplicate),
-        ("key = [\"id\"]\n[[tables]]\nname = \"user_by_pk\"\nkey = [\"b\"]\ncolumns = [{ name = \"b\", type = \"int\" }]\n", MetaFault::Duplicate),
-        ("key = [\"id\"]\nobject = [{ name = \"up\", table = \"post\", from = [\"id\"], to = [\"id\"] }]\n", MetaFault::NoTable),
-        ("key = [\"id\"]\nobject = [{ name = \"up\", table = \"user\", from = [\"id\"], to = [\"no\"] }]\n", MetaFault::NoColumn),
-        ("key = [\"id\"]\nobject = [{ name = \"up\", table = \"user\", from = [\"id\"], to = [\"id\", \"name\"] }]\n", MetaFault::BadKind),
-        ("key = [\"id\"]\narray = [{ name = \"up\", table = \"user\", from = [\"id\"], to = [\"name\"] }]\n", MetaFault::BadKind),
+        (
+            "key = [\"id\"]\n[[tables]]\nname = \"__a\"\nkey = [\"b\"]\ncolumns = [{ name = \"b\", type = \"int\" }]\n",
+            MetaFault::BadName,
+        ),
+        (
+            "key = [\"id\"]\nobject = [{ name = \"a b\", table = \"user\", from = [\"id\"], to = [\"id\"] }]\n",
+            MetaFault::BadName,
+        ),
+        (
+            "key = [\"id\"]\nobject = [{ name = \"id\", table = \"user\", from = [\"id\"], to = [\"id\"] }]\n",
+            MetaFault::Duplicate,
+        ),
+        (
+            "key = [\"id\"]\n[[tables]]\nname = \"user_by_pk\"\nkey = [\"b\"]\ncolumns = [{ name = \"b\", type = \"int\" }]\n",
+            MetaFault::Duplicate,
+        ),
+        (
+            "key = [\"id\"]\nobject = [{ name = \"up\", table = \"post\", from = [\"id\"], to = [\"id\"] }]\n",
+            MetaFault::NoTable,
+        ),
+        (
+            "key = [\"id\"]\nobject = [{ name = \"up\", table = \"user\", from = [\"id\"], to = [\"no\"] }]\n",
+            MetaFault::NoColumn,
+        ),
+        (
+            "key = [\"id\"]\nobject = [{ name = \"up\", table = \"user\", from = [\"id\"], to = [\"id\", \"name\"] }]\n",
+            MetaFault::BadKind,
+        ),
+        (
+            "key = [\"id\"]\narray = [{ name = \"up\", table = \"user\", from = [\"id\"], to = [\"name\"] }]\n",
+            MetaFault::BadKind,
+        ),
         ("key = [\"id\"]\nunique = [\"no\"]\n", MetaFault::NoColumn),
         ("key = [\"id\"]\nmax_rows = 0\n", MetaFault::BadForm),
     ] {
         assert!(rt; refusal_of_user(alloc, lines) == Some(want), "{lines}");
     }
-    assert!(rt; refusal_of_user(alloc, "key = [\"id\"]\nunique = [\"id\", \"name\"]\nmax_rows = 1\n").is_none());
+    assert!(rt;
+        refusal_of_user(
+            alloc,
+            "key = [\"id\"]\nunique = [\"id\", \"name\"]\nmax_rows = 1\n"
+        )
+        .is_none()
+    );
 }
 
 #[test]
 fn permissions_have_their_faults(rt: HostRuntime) {
     let alloc = rt.alloc();
     for (lines, want) in [
-        ("key = [\"id\"]\nselect = [{ role = \"admin\", columns = [], filter = \"{}\" }]\n", MetaFault::BadRole),
-        ("key = [\"id\"]\nselect = [{ role = \"r\", columns = [\"no\"], filter = \"{}\" }]\n", MetaFault::NoColumn),
-        ("key = [\"id\"]\nselect = [{ role = \"r\", columns = [\"id\", \"id\"], filter = \"{}\" }]\n", MetaFault::Duplicate),
-        ("key = [\"id\"]\nselect = [{ role = \"r\", columns = [], filter = \"{\" }]\n", MetaFault::BadForm),
-        ("key = [\"id\"]\nselect = [{ role = \"r\", columns = [], filter = \"[]\" }]\n", MetaFault::BadFilter),
-        ("key = [\"id\"]\nselect = [{ role = \"r\", columns = [], filter = '{\"id\":{\"_in\":[\"x-hasura-a\"]}}' }]\n", MetaFault::BadFilter),
-        ("key = [\"id\"]\nselect = [{ role = \"r\", columns = [], filter = '{\"id\":{\"_eq\":null}}' }]\n", MetaFault::BadFilter),
-        ("key = [\"id\"]\nselect = [{ role = \"r\", columns = [], filter = '{\"id\":{\"_eq\":\"1\"}}' }]\n", MetaFault::BadFilter),
-        ("key = [\"id\"]\nselect = [{ role = \"r\", columns = [], filter = '{\"id\":{\"_is_null\":\"x-hasura-a\"}}' }]\n", MetaFault::BadFilter),
-        ("key = [\"id\"]\nselect = [{ role = \"r\", columns = [], filter = '{\"_not\":[]}' }]\n", MetaFault::BadFilter),
+        (
+            "key = [\"id\"]\nselect = [{ role = \"admin\", columns = [], filter = \"{}\" }]\n",
+            MetaFault::BadRole,
+        ),
+        (
+            "key = [\"id\"]\nselect = [{ role = \"r\", columns = [\"no\"], filter = \"{}\" }]\n",
+            MetaFault::NoColumn,
+        ),
+        (
+            "key = [\"id\"]\nselect = [{ role = \"r\", columns = [\"id\", \"id\"], filter = \"{}\" }]\n",
+            MetaFault::Duplicate,
+        ),
+        (
+            "key = [\"id\"]\nselect = [{ role = \"r\", columns = [], filter = \"{\" }]\n",
+            MetaFault::BadForm,
+        ),
+        (
+            "key = [\"id\"]\nselect = [{ role = \"r\", columns = [], filter = \"[]\" }]\n",
+            MetaFault::BadFilter,
+        ),
+        (
+            "key = [\"id\"]\nselect = [{ role = \"r\", columns = [], filter = '{\"id\":{\"_in\":[\"x-hasura-a\"]}}' }]\n",
+            MetaFault::BadFilter,
+        ),
+        (
+            "key = [\"id\"]\nselect = [{ role = \"r\", columns = [], filter = '{\"id\":{\"_eq\":null}}' }]\n",
+            MetaFault::BadFilter,
+        ),
+        (
+            "key = [\"id\"]\nselect = [{ role = \"r\", columns = [], filter = '{\"id\":{\"_eq\":\"1\"}}' }]\n",
+            MetaFault::BadFilter,
+        ),
+        (
+            "key = [\"id\"]\nselect = [{ role = \"r\", columns = [], filter = '{\"id\":{\"_is_null\":\"x-hasura-a\"}}' }]\n",
+            MetaFault::BadFilter,
+        ),
+        (
+            "key = [\"id\"]\nselect = [{ role = \"r\", columns = [], filter = '{\"_not\":[]}' }]\n",
+            MetaFault::BadFilter,
+        ),
     ] {
         assert!(rt; refusal_of_user(alloc, lines) == Some(want), "{lines}");
     }
-    assert!(rt; refusal_of_user(alloc, "key = [\"id\"]\nselect = [{ role = \"r\", columns = [], limit = 0, filter = '{\"_or\":[{\"id\":{\"_gt\":1,\"_lt\":9}},{\"_not\":{\"name\":{\"_nin\":[\"a\",\"b\"]}}}],\"name\":{\"_is_null\":false}}' }]\n").is_none());
+    assert!(rt;
+        refusal_of_user(
+            alloc,
+            "key = [\"id\"]\nselect = [{ role = \"r\", columns = [], limit = 0, filter = '{\"_or\":[{\"id\":{\"_gt\":1,\"_lt\":9}},{\"_not\":{\"name\":{\"_nin\":[\"a\",\"b\"]}}}],\"name\":{\"_is_null\":false}}' }]\n"
+        )
+        .is_none()
+    );
 }
 
 #[test]
 fn of_two_faults_the_first_of_the_list_counts(rt: HostRuntime) {
     let alloc = rt.alloc();
     for (lines, want) in [
-        ("key = [\"no\"]\nobject = [{ name = \"up\", table = \"post\", from = [\"id\"], to = [\"id\"] }]\n", MetaFault::NoTable),
-        ("key = [\"no\", \"no\"]\nobject = [{ name = \"__up\", table = \"post\", from = [\"id\"], to = [\"id\"] }]\n", MetaFault::BadName),
+        (
+            "key = [\"no\"]\nobject = [{ name = \"up\", table = \"post\", from = [\"id\"], to = [\"id\"] }]\n",
+            MetaFault::NoTable,
+        ),
+        (
+            "key = [\"no\", \"no\"]\nobject = [{ name = \"__up\", table = \"post\", from = [\"id\"], to = [\"id\"] }]\n",
+            MetaFault::BadName,
+        ),
         ("key = [\"no\", \"no\"]\n", MetaFault::Duplicate),
         ("key = [\"name\"]\nunique = [\"no\"]\n", MetaFault::NoColumn),
-        ("key = [\"name\"]\nselect = [{ role = \"admin\", columns = [], filter = \"[]\" }]\n", MetaFault::BadKind),
-        ("key = [\"id\"]\nselect = [{ role = \"admin\", columns = [], filter = \"[]\" }]\n", MetaFault::BadRole),
+        (
+            "key = [\"name\"]\nselect = [{ role = \"admin\", columns = [], filter = \"[]\" }]\n",
+            MetaFault::BadKind,
+        ),
+        (
+            "key = [\"id\"]\nselect = [{ role = \"admin\", columns = [], filter = \"[]\" }]\n",
+            MetaFault::BadRole,
+        ),
     ] {
         assert!(rt; refusal_of_user(alloc, lines) == Some(want), "{lines}");
     }
@@ -145,7 +240,10 @@ fn refusal_of_columns(alloc: Global, count: usize) -> Option<MetaFault> {
         return None;
     };
     for _ in 0..count {
-        if text.push_str("{ name = \"id\", type = \"int\" }, ").is_err() {
+        if text
+            .push_str("{ name = \"id\", type = \"int\" }, ")
+            .is_err()
+        {
             return None;
         }
     }
@@ -194,7 +292,10 @@ fn settings_have_their_defaults(rt: HostRuntime) {
     assert!(rt; meta.refetch_ms() == 1000);
     assert!(rt; meta.secret().is_none());
     assert!(rt; meta.unauthorized_role().is_none());
-    let Ok(meta) = Meta::read(alloc, b"version = 1\nbatch_size = 7\nadmin_secret = \"s\"\nunauthorized_role = \"guest\"\ntables = []\n") else {
+    let Ok(meta) = Meta::read(
+        alloc,
+        b"version = 1\nbatch_size = 7\nadmin_secret = \"s\"\nunauthorized_role = \"guest\"\ntables = []\n",
+    ) else {
         assert!(rt; false, "settings are allowed");
         return;
     };

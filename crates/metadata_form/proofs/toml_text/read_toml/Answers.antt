@@ -1,4 +1,3 @@
-use Rattle.std.proofs.Common.{◌≡◌}
 use Rattle.toml.specs.View.{table_view}
 use Rattle.toml.specs.Errors.{IsMemory}
 use Rattle.metadata_form.proofs.Documents.{toml_of-some, toml_of-refused}
