@@ -14,7 +14,7 @@ use Rattle.model.specs.Messages.{Request}
 use Rattle.model.specs.Admission.{Admission, Admits, Unread, admits, admits_selection, admits_columns, admitted_with, slots_by, slot_values, session_values, sees_columns, words, query_text, are_distinct}
 use Rattle.model.specs.Built.{is_admitted}
 use Rattle.hub.specs.declared.plan.Plan.{Plan}
-use Rattle.hub.specs.Plans.{administrator, seen_by_all, AreFields, IsPlanOf}
+use Rattle.hub.specs.Plans.{administrator, administrator_view, AreFields, IsPlanOf}
 
 -- the parts of a query in the one form, and whether it has the form
 
@@ -30,18 +30,18 @@ has_form text table columns = same_text text (query_text table columns) && (is_n
 abbrev asks : List ℕ → Request
 asks text = record { query = text; operation = None }
 
-at_form : (meta : Metadata) (text : List ℕ) (form : Bool) → has_form text (table_in text) (columns_in text) ≡ form → admits meta administrator (asks text) ≡ admits_selection (seen_by_all meta) administrator (if form then Some (Columns (table_in text) (columns_in text)) else None)
-at_form meta text form e = ap (λ (f : Bool). admits_selection (seen_by_all meta) administrator (if f then Some (Columns (table_in text) (columns_in text)) else None)) e
+at_form : (meta : Metadata) (text : List ℕ) (form : Bool) → has_form text (table_in text) (columns_in text) ≡ form → admits meta administrator (asks text) ≡ admits_selection (administrator_view meta) administrator (if form then Some (Columns (table_in text) (columns_in text)) else None)
+at_form meta text form e = ap (λ (f : Bool). admits_selection (administrator_view meta) administrator (if f then Some (Columns (table_in text) (columns_in text)) else None)) e
 
 pub no_form : (meta : Metadata) (text : List ℕ) → has_form text (table_in text) (columns_in text) ≡ false → is_admitted (admits meta administrator (asks text)) ≡ false
 no_form meta text e = ap is_admitted (at_form meta text false e)
 
 -- in the form, by the parts that the code found
-pub in_form : (meta : Metadata) (text table : List ℕ) (columns : List (List ℕ)) → table ≡ table_in text → columns ≡ columns_in text → has_form text (table_in text) (columns_in text) ≡ true → admits meta administrator (asks text) ≡ admits_columns (seen_by_all meta) administrator table columns (table_seen (seen_by_all meta) table)
+pub in_form : (meta : Metadata) (text table : List ℕ) (columns : List (List ℕ)) → table ≡ table_in text → columns ≡ columns_in text → has_form text (table_in text) (columns_in text) ≡ true → admits meta administrator (asks text) ≡ admits_columns (administrator_view meta) administrator table columns (table_seen (administrator_view meta) table)
 in_form meta text table columns et ec e =
     at_form meta text true e
-    ∙ ap (λ (t : List ℕ). admits_columns (seen_by_all meta) administrator t (columns_in text) (table_seen (seen_by_all meta) t)) (sym et)
-    ∙ ap (λ (cs : List (List ℕ)). admits_columns (seen_by_all meta) administrator table cs (table_seen (seen_by_all meta) table)) (sym ec)
+    ∙ ap (λ (t : List ℕ). admits_columns (administrator_view meta) administrator t (columns_in text) (table_seen (administrator_view meta) t)) (sym et)
+    ∙ ap (λ (cs : List (List ℕ)). admits_columns (administrator_view meta) administrator table cs (table_seen (administrator_view meta) table)) (sym ec)
 
 pub table_found : (ws : List (Bor (List ℕ))) (text t : List ℕ) → t ≡ piece 2 (map (λ (w : Bor (List ℕ)). w.now) ws) → map (λ (w : Bor (List ℕ)). w.now) ws ≡ words text → t ≡ table_in text
 table_found ws text t e w = e ∙ ap (piece 2) w
@@ -57,22 +57,22 @@ form_found text t cs b et ec h = sym (h ∙ ap (λ (t : List ℕ). has_form text
 -- Columns of a table
 
 abbrev verdict : Metadata → List ℕ → List (List ℕ) → ℕ → Bool → Admission
-verdict meta name names table fine = if fine then admitted_with administrator.role (Columns name names) (session_values (seen_by_all meta) administrator table) else Unread
+verdict meta name names table fine = if fine then admitted_with administrator.role (Columns name names) (session_values (administrator_view meta) administrator table) else Unread
 
-at_columns : (meta : Metadata) (name : List ℕ) (names : List (List ℕ)) (table : ℕ) (fine : Bool) → Some table ≡ table_seen (seen_by_all meta) name → (are_distinct names && sees_columns (seen_by_all meta) table names) ≡ fine → admits_columns (seen_by_all meta) administrator name names (table_seen (seen_by_all meta) name) ≡ verdict meta name names table fine
-at_columns meta name names table fine t e = ap (λ (o : Option ℕ). admits_columns (seen_by_all meta) administrator name names o) (sym t) ∙ ap (verdict meta name names table) e
+at_columns : (meta : Metadata) (name : List ℕ) (names : List (List ℕ)) (table : ℕ) (fine : Bool) → Some table ≡ table_seen (administrator_view meta) name → (are_distinct names && sees_columns (administrator_view meta) table names) ≡ fine → admits_columns (administrator_view meta) administrator name names (table_seen (administrator_view meta) name) ≡ verdict meta name names table fine
+at_columns meta name names table fine t e = ap (λ (o : Option ℕ). admits_columns (administrator_view meta) administrator name names o) (sym t) ∙ ap (verdict meta name names table) e
 
 and_false : (a : Bool) → (a && false) ≡ false
 and_false true = refl
 and_false false = refl
 
-pub no_table : (meta : Metadata) (name : List ℕ) (names : List (List ℕ)) → None ≡ table_seen (seen_by_all meta) name → is_admitted (admits_columns (seen_by_all meta) administrator name names (table_seen (seen_by_all meta) name)) ≡ false
-no_table meta name names t = ap (λ (o : Option ℕ). is_admitted (admits_columns (seen_by_all meta) administrator name names o)) (sym t)
+pub no_table : (meta : Metadata) (name : List ℕ) (names : List (List ℕ)) → None ≡ table_seen (administrator_view meta) name → is_admitted (admits_columns (administrator_view meta) administrator name names (table_seen (administrator_view meta) name)) ≡ false
+no_table meta name names t = ap (λ (o : Option ℕ). is_admitted (admits_columns (administrator_view meta) administrator name names o)) (sym t)
 
-pub not_distinct : (meta : Metadata) (name : List ℕ) (names : List (List ℕ)) (table : ℕ) → Some table ≡ table_seen (seen_by_all meta) name → are_distinct names ≡ false → is_admitted (admits_columns (seen_by_all meta) administrator name names (table_seen (seen_by_all meta) name)) ≡ false
-not_distinct meta name names table t d = ap is_admitted (at_columns meta name names table false t (ap (λ (b : Bool). b && sees_columns (seen_by_all meta) table names) d))
+pub not_distinct : (meta : Metadata) (name : List ℕ) (names : List (List ℕ)) (table : ℕ) → Some table ≡ table_seen (administrator_view meta) name → are_distinct names ≡ false → is_admitted (admits_columns (administrator_view meta) administrator name names (table_seen (administrator_view meta) name)) ≡ false
+not_distinct meta name names table t d = ap is_admitted (at_columns meta name names table false t (ap (λ (b : Bool). b && sees_columns (administrator_view meta) table names) d))
 
-pub no_columns : (meta : Metadata) (name : List ℕ) (names : List (List ℕ)) (table : ℕ) → Some table ≡ table_seen (seen_by_all meta) name → sees_columns (seen_by_all meta) table names ≡ false → is_admitted (admits_columns (seen_by_all meta) administrator name names (table_seen (seen_by_all meta) name)) ≡ false
+pub no_columns : (meta : Metadata) (name : List ℕ) (names : List (List ℕ)) (table : ℕ) → Some table ≡ table_seen (administrator_view meta) name → sees_columns (administrator_view meta) table names ≡ false → is_admitted (admits_columns (administrator_view meta) administrator name names (table_seen (administrator_view meta) name)) ≡ false
 no_columns meta name names table t s = ap is_admitted (at_columns meta name names table false t (ap (λ (b : Bool). are_distinct names && b) s ∙ and_false _))
 
 no_slots : (o : Option TableDef) → slots_by o None ≡ []
@@ -80,12 +80,12 @@ no_slots None = refl
 no_slots (Some table) = refl
 
 -- an administrator's queries have no session values
-no_session : (meta : Metadata) (table : ℕ) → session_values (seen_by_all meta) administrator table ≡ Some []
-no_session meta table = ap (slot_values (seen_by_all meta) administrator) (no_slots (table_at (seen_by_all meta) table))
+no_session : (meta : Metadata) (table : ℕ) → session_values (administrator_view meta) administrator table ≡ Some []
+no_session meta table = ap (slot_values (administrator_view meta) administrator) (no_slots (table_at (administrator_view meta) table))
 
-pub plan_is : (meta : Metadata) (plan : Plan) (names : List (List ℕ)) → Some plan.table ≡ table_seen (seen_by_all meta) plan.name → are_distinct names ≡ true → AreFields (seen_by_all meta) plan.table names (Some plan.fields) → IsPlanOf meta (admits_columns (seen_by_all meta) administrator plan.name names (table_seen (seen_by_all meta) plan.name)) (Some plan)
+pub plan_is : (meta : Metadata) (plan : Plan) (names : List (List ℕ)) → Some plan.table ≡ table_seen (administrator_view meta) plan.name → are_distinct names ≡ true → AreFields (administrator_view meta) plan.table names (Some plan.fields) → IsPlanOf meta (admits_columns (administrator_view meta) administrator plan.name names (table_seen (administrator_view meta) plan.name)) (Some plan)
 plan_is meta plan names t d f = (
-  at_columns meta plan.name names plan.table true t (ap (λ (b : Bool). b && sees_columns (seen_by_all meta) plan.table names) d ∙ f.2)
+  at_columns meta plan.name names plan.table true t (ap (λ (b : Bool). b && sees_columns (administrator_view meta) plan.table names) d ∙ f.2)
       ∙ ap (λ (o : Option (List SessionValue)). admitted_with administrator.role (Columns plan.name names) o) (no_session meta plan.table)
       ∙ ap (λ (ns : List (List ℕ)). Admits (record { word = SubscriptionWord; kind = Live; role = administrator.role; selection = Columns plan.name ns; variables = []; session = [] }) val.Null) (sym f.0),
   record { table = sym t; fields = f.1 },

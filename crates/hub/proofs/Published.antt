@@ -1,5 +1,5 @@
 -- Publications of the one open job.
-use Rattle.std.proofs.Common.{◌≡◌, ◌∙◌, sym, ap, subst, refl, ℕ, ◌+◌, ◌-◌, Bool, true, false, cond, Option, Some, None, option_map, List, [], ◌∷◌, map, slice_get, inl}
+use Rattle.std.proofs.Common.{is_some, ◌≡◌, ◌∙◌, sym, ap, subst, refl, ℕ, ◌+◌, ◌-◌, Bool, true, false, cond, Option, Some, None, option_map, List, [], ◌∷◌, map, slice_get, inl}
 use Rattle.scalar_val.specs.declared.val.Val.TheVariants as val
 use Rattle.std.proofs.lemmas.Option.{same_Some}
 use Rattle.data_model.specs.declared.transaction.TxChange.{TxChange}
@@ -11,13 +11,14 @@ use Rattle.model.specs.State as machine
 use Rattle.model.specs.State.{State, Event, Publish, Published, Queued}
 use Rattle.model.specs.Values.{same_text}
 use Rattle.model.specs.Publication.{database_of, is_new, publish, publish_live, and_then, close_job}
+use Rattle.model.specs.Batches.{job_at}
 use Rattle.model.specs.Run.{happens}
 use Rattle.hub.specs.State.{Kept, state_of}
 use Rattle.hub.specs.Stands.{StandsFor, Happened}
 use Rattle.hub.specs.Jobs.{Taking, takings, AnswersOf, AreResults, result_of}
 use Rattle.hub.specs.Plans.{query_of}
 use Rattle.hub.specs.Parts.{by_option, by_subscription, changed, stands_as, has_number, first_text, next_for, next_of, told_with, queued_with, remembered}
-use Rattle.hub.specs.Seen.{seen, subscription_of, first_member, due_of, jobs_of}
+use Rattle.hub.specs.Seen.{seen, subscription_of, first_member, due_of, jobs_in, jobs_by, jobs_of}
 use Rattle.hub.specs.declared.job.Outcome.{Outcome}
 use Rattle.hub.specs.declared.job.Answers.{Answers}
 use Rattle.hub.specs.declared.parts.Connection.{Connection}
@@ -144,3 +145,17 @@ due_in_option c (Some sub) number text x e = due_by_standing c sub sub.standing 
 pub due_stays : (c : Option Connection) (number : ℕ) (text x : Option (List ℕ)) → by_subscription false (λ sub. has_number number sub.standing) c ≡ true → due_of (option_map (changed (stands_as Idle)) (remembered text (told_with x c))) ≡ due_of c
 due_stays None number text x e = cc
 due_stays (Some c) number text x e = due_in_option c c.subscription number text x e
+
+-- the number of the job that the hub has open is that of an open job
+open_by : (sub : Subscription) (st : Standing) (number : ℕ) → has_number number st ≡ true → is_some (job_at number (jobs_in st)) ≡ true
+open_by sub Idle number h = cc
+open_by sub Due number h = cc
+open_by sub (Open other version) number h = rw h refl
+
+open_in : (s : Option Subscription) (number : ℕ) → by_option false (λ sub. has_number number sub.standing) s ≡ true → is_some (job_at number (jobs_by s)) ≡ true
+open_in None number h = cc
+open_in (Some sub) number h = open_by sub sub.standing number h
+
+pub is_open_job : (c : Option Connection) (number : ℕ) → by_subscription false (λ sub. has_number number sub.standing) c ≡ true → is_some (job_at number (jobs_of c)) ≡ true
+is_open_job None number h = cc
+is_open_job (Some c) number h = open_in c.subscription number h

@@ -18,7 +18,7 @@ use Rattle.model.specs.Values.{joined}
 use Rattle.model.specs.Queries.{SessionValue, result, result_at, result_on, list_result, pair_text, object_text, value_at, payload_text, is_shown}
 use Rattle.hub.specs.declared.plan.Field.{Field}
 use Rattle.hub.specs.declared.plan.Plan.{Plan}
-use Rattle.hub.specs.Plans.{planned, planned_rows, planned_object, planned_pair, query_of, seen_by_all, IsPlan, ArePlaced}
+use Rattle.hub.specs.Plans.{planned, planned_rows, planned_object, planned_pair, query_of, administrator_view, IsPlan, ArePlaced}
 
 -- The place of a table that is seen is that of a table.
 
@@ -30,7 +30,7 @@ place_below : (tables : List TableDef) (place : Option ℕ) (t : ℕ) → option
 place_below tables None t e = cc
 place_below tables (Some n) t e = only_below tables (nat_lt n (length tables)) n t refl e
 
-pub table_below : (meta : Metadata) (name : List ℕ) (t : ℕ) → table_seen (seen_by_all meta) name ≡ Some t → t < length meta.catalog.tables
+pub table_below : (meta : Metadata) (name : List ℕ) (t : ℕ) → table_seen (administrator_view meta) name ≡ Some t → t < length meta.catalog.tables
 table_below meta name t e = place_below meta.catalog.tables (position (λ (t : TableDef). bytes_eq name t.name) meta.catalog.tables) t e
 
 record Found {X : Type 0} (xs : List X) (n : ℕ) : Type 0 where
@@ -48,14 +48,14 @@ seen_all : (o : Option ℕ) → option_and_then (λ (column : ℕ). only_if true
 seen_all None = refl
 seen_all (Some column) = refl
 
-column_placed : (meta : Metadata) (t : ℕ) (table : TableDef) (name : List ℕ) → slice_get meta.catalog.tables t ≡ Some table → column_seen (seen_by_all meta) t name ≡ column_number table.columns name
+column_placed : (meta : Metadata) (t : ℕ) (table : TableDef) (name : List ℕ) → slice_get meta.catalog.tables t ≡ Some table → column_seen (administrator_view meta) t name ≡ column_number table.columns name
 column_placed meta t table name e =
     ap (λ (o : Option TableDef). option_and_then (λ (t : TableDef). option_and_then (λ (column : ℕ). only_if true (Some column)) (column_number t.columns name)) o) e ∙ seen_all (column_number table.columns name)
 
 abbrev Numbered : List Column → List Field → Type 0
 Numbered columns fields = AllByRecursion (λ (f : Field). column_number columns f.name ≡ Some f.place) fields
 
-numbered : (meta : Metadata) (t : ℕ) (table : TableDef) (fields : List Field) → slice_get meta.catalog.tables t ≡ Some table → ArePlaced (seen_by_all meta) t fields → Numbered table.columns fields
+numbered : (meta : Metadata) (t : ℕ) (table : TableDef) (fields : List Field) → slice_get meta.catalog.tables t ≡ Some table → ArePlaced (administrator_view meta) t fields → Numbered table.columns fields
 numbered meta t table [] e a = tt
 numbered meta t table (f ∷ fields) e a = (sym (column_placed meta t table f.name e) ∙ a.0, numbered meta t table fields e a.1)
 

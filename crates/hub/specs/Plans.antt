@@ -35,8 +35,8 @@ abbrev pub administrator : Session
 administrator = record { role = codes "admin"; vars = [] }
 
 -- the metadata as an administrator sees it
-abbrev pub seen_by_all : Metadata → View
-seen_by_all meta = view_of meta administrator.role
+abbrev pub administrator_view : Metadata → View
+administrator_view meta = view_of meta administrator.role
 
 -- the query that a plan is for
 abbrev pub query_of : Plan → Query
@@ -53,8 +53,8 @@ AreFields v table names None = sees_columns v table names ≡ false
 
 -- its table and its fields have the places of their names in the metadata
 pub record IsPlan (meta : Metadata) (plan : Plan) : Type 0 where
-  pub table : table_seen (seen_by_all meta) plan.name ≡ Some plan.table
-  pub fields : ArePlaced (seen_by_all meta) plan.table plan.fields
+  pub table : table_seen (administrator_view meta) plan.name ≡ Some plan.table
+  pub fields : ArePlaced (administrator_view meta) plan.table plan.fields
 
 -- there is a plan exactly where a query is admitted, and it is that query's
 abbrev pub IsPlanOf : Metadata → Admission → Option Plan → Type 0

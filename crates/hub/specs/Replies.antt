@@ -1,8 +1,9 @@
 -- What the replies of a hub's calls say. This project's own.
-use Rattle.std.specs.Prelude.{◌≡◌, ℕ, ◌+◌, ◌<◌, true, false, Option, Some, None, List, [], ◌∷◌, ◌++◌, length, map}
+use Rattle.std.specs.Prelude.{◌≡◌, ℕ, ◌+◌, ◌<◌, true, false, is_some, Option, Some, None, List, [], ◌∷◌, ◌++◌, length, map}
 use Rattle.model.specs.State.{Event, Receive, Commit, Take, Publish, ConnectionKnown, ConnectionUnknown, Did, Committed, Declined, Nobody, Taken, NotOpen, Published}
 use Rattle.data_model.specs.declared.transaction.TxChange.{TxChange}
 use Rattle.model.specs.Messages.{Message}
+use Rattle.model.specs.Batches.{job_at}
 use Rattle.model.specs.Run.{run}
 use Rattle.model.specs.Built.{is_built, knows}
 use Rattle.model.specs.Shown.{queued_of}
@@ -55,9 +56,11 @@ TakeAnswers k k' (Some job) =
     Does k k' Take (Taken (job_of job)) [] × ((h : List Event) → StandsFor k h → JobOf k.meta job (h ++ Take ∷ [])) × Fits job × (k'.taken ≡ job.number) × (length k'.due < length k.due)
 TakeAnswers k k' None = Does k k' Take Nobody [] × (k.due ≡ [])
 
--- The job wasn't open; or it was, and where the answers are those of a job that was taken, they are published.
+-- The job wasn't open; or it was, and where the answers are those of a job that was taken, they are published. A job is
+-- closed only where its number is that of an open one, whoever's the answers are.
 abbrev pub PublishAnswers : Kept → Kept → Answers → PublishReply → Type 0
 PublishAnswers k k' answers publish.NotOpen = Does k k' (Publish answers.number) NotOpen [] × (k'.due ≡ k.due)
 PublishAnswers k k' answers (publish.Published queued) =
     (k'.meta ≡ k.meta) × (k'.events ≡ k.events + 1) × (k'.due ≡ k.due)
     × ((h : List Event) → StandsFor k h → AnswersOf k.meta answers h → Happened k k' h (Publish answers.number) (Published answers.version) (map queued_of queued))
+    × (is_some (job_at answers.number k.jobs) ≡ true)

@@ -3,7 +3,7 @@ ghost use Rattle.std.specs.List.{list_any, list_all};
 ghost use Rattle.role_model.specs.Roles.{table_seen};
 ghost use Rattle.model.specs.Values.{same_text, is_lower, is_name};
 ghost use Rattle.model.specs.Admission.{admits, admits_columns, are_distinct, query_text};
-ghost use Rattle.hub.specs.Plans.{administrator, seen_by_all, AreFields, IsPlanOf};
+ghost use Rattle.hub.specs.Plans.{administrator, administrator_view, AreFields, IsPlanOf};
 
 use crate::plan::{Field, FieldList, Plan};
 use crate::reading::{is_lower, piece, pieces};
@@ -115,7 +115,7 @@ fn plan_columns(
     name: &str,
     names: &[&str],
 ) -> Result<Option<Plan>, NoMemory>
-    ensures { IfOk result (λ plan. IsPlanOf meta.now (admits_columns (seen_by_all meta.now) administrator name.now (map (λ n. n.now) names.now) (table_seen (seen_by_all meta.now) name.now)) plan) }
+    ensures { IfOk result (λ plan. IsPlanOf meta.now (admits_columns (administrator_view meta.now) administrator name.now (map (λ n. n.now) names.now) (table_seen (administrator_view meta.now) name.now)) plan) }
 {
     let view = meta.view("admin");
     let Some(table) = view.table(name) else {

@@ -244,6 +244,7 @@ impl Hub {
             self.events += 1;
             return Ok(None);
         };
+        // A batch has room for one cohort at least, so the one that is due is taken: its bound says so.
         let _at_least_one = self.meta.batch_size();
         let snapshot = self.snapshot.share(alloc)?;
         let members = one_member(alloc)?;
