@@ -3,6 +3,8 @@
 
 mod binding;
 mod condition;
+#[cfg(test)]
+mod tests;
 
 pub use binding::copy_binding;
 pub use condition::truth;
