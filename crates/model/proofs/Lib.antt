@@ -22,3 +22,5 @@ pub mod WorkedLaws
 pub mod LinkedRuns
 pub mod Cursors
 pub mod Numbers
+pub mod WorkedLines
+pub mod WorkedFlights

@@ -1,5 +1,5 @@
 -- Which events are built so far: one connection, one subscription, transactions and polls; and every event on a
--- connection that isn't known, as well as the opening of one that is known.
+-- connection that isn't known, as well as the opening of one that is known. This project's own.
 use Rattle.std.specs.Prelude.{ℕ, Bool, true, false, ◌||◌, is_some, is_none, Option, Some, None, List, [], ◌∷◌}
 use Rattle.role_model.specs.declared.metadata.Metadata.{Metadata}
 use Rattle.role_model.specs.declared.session.Session.{Session}

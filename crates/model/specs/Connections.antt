@@ -1,4 +1,5 @@
--- What the events of connections do: the phases, messages and closes of the `graphql-transport-ws` protocol.
+-- What the events of connections do: the phases, messages and closes of the `graphql-transport-ws` protocol. Queues and
+-- how they are drained, and what the end of a connection does, are this project's own.
 use Rattle.std.specs.Prelude.{ℕ, ◌+◌, Bool, true, false, ◌&&◌, not, ◌==◌, if◌then◌else◌, Option, Some, None, List, [], ◌∷◌, ◌++◌, length, map, filter, find}
 use Rattle.std.specs.List.{list_any}
 use Rattle.scalar_val.specs.declared.val.Val.{Val}

@@ -1,4 +1,5 @@
--- What a publication queues (Hasura's live query and streaming subscription documentation).
+-- What a publication queues (Hasura's live query and streaming subscription documentation). That a query operation is
+-- answered by its first publication, and that a stream without a row is told nothing, is this project's own.
 use Rattle.std.specs.Prelude.{ℕ, Bool, true, not, nat_lt, ◌==◌, if◌then◌else◌, Option, Some, None, List, [], ◌∷◌, ◌++◌, map}
 use Rattle.scalar_val.specs.declared.val.Val.{Val}
 use Rattle.model.specs.Values.{same_text}

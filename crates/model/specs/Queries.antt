@@ -1,5 +1,6 @@
 -- Queries, their canonical texts and cohorts, and their results. Results follow GraphQL October 2021, section 6
 -- ("Execution"), with each selected table as a list of its rows in key order (Hasura's documentation, "Queries").
+-- Canonical texts, and what makes two queries of one poller or cohort, are this project's own.
 use Rattle.std.specs.Prelude.{ℕ, Bool, true, false, ◌&&◌, ◌==◌, Option, Some, None, List, [], ◌∷◌, ◌++◌, length, map, filter, find, take, slice_get, unwrap_or, codes}
 use Rattle.std.specs.Option.{option_map}
 use Rattle.std.specs.List.{flat_map}

@@ -1,4 +1,4 @@
--- What the plain types mean to the machine.
+-- What the plain types mean to the machine. This project's own.
 use Rattle.model.specs.State as state
 use Rattle.model.specs.declared.queued.Queued.{Queued}
 

@@ -1,4 +1,4 @@
--- Tests on texts and values, names, numbers, texts joined by commas, and the pieces of a text.
+-- Tests on texts and values, names, numbers, texts joined by commas, and the pieces of a text. This project's own.
 use Rattle.std.specs.Prelude.{ℕ, ◌+◌, ◌-◌, ◌*◌, Bool, ◌&&◌, ◌==◌, nat_le, nat_lt, if◌then◌else◌, List, [], ◌∷◌, ◌++◌, length}
 use Rattle.std.specs.Ordering.{is_eq}
 use Rattle.std.specs.List.{flat_map, fold, list_all}

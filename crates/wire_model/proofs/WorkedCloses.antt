@@ -30,6 +30,13 @@ cut_reason = refl
 pub whole_character : told (close_exists (replicate 106 97 ++ 195 ∷ 169 ∷ 122 ∷ [])) ≡ (4409, codes "Subscriber for " ++ replicate 106 97 ++ 195 ∷ 169 ∷ [])
 whole_character = refl
 
+-- characters of three and of four bytes that byte 123 would cut
+pub three_bytes : told (close_exists (replicate 106 97 ++ 226 ∷ 130 ∷ 172 ∷ [])) ≡ (4409, codes "Subscriber for " ++ replicate 106 97)
+three_bytes = refl
+
+pub four_bytes : told (close_exists (replicate 107 97 ++ 240 ∷ 159 ∷ 152 ∷ 128 ∷ [])) ≡ (4409, codes "Subscriber for " ++ replicate 107 97)
+four_bytes = refl
+
 pub longest_id : told (close_exists (replicate 93 97)) ≡ (4409, codes "Subscriber for " ++ replicate 93 97 ++ codes " already exists")
 longest_id = refl
 

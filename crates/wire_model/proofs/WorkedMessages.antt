@@ -1,5 +1,5 @@
 -- Worked rows of the messages of clients and servers, which compute.
-use Rattle.std.specs.Prelude.{◌≡◌, [], Some, None, refl, true, codes}
+use Rattle.std.specs.Prelude.{◌≡◌, ◌++◌, [], Some, None, refl, replicate, true, codes}
 use Rattle.json.specs.Print.{escape_byte}
 use Rattle.serde_json.proofs.OnLiterals.{serde_json_on_literals}
 use Rattle.serde_json.specs.Data.{null, boolean, string, object, no_members, member}
@@ -103,6 +103,53 @@ no_json = refl
 pub no_text : message [] ≡ Bad
 unfolding serde_json_on_literals
 no_text = refl
+
+-- an extension that is null is as good as none, and a query or a payload that is null isn't
+pub null_extensions : message (codes "{\"type\":\"subscribe\",\"id\":\"a\",\"payload\":{\"query\":\"\",\"extensions\":null}}") ≡ Subscribe (codes "a") (record { query = []; operation = None; variables = null })
+unfolding serde_json_on_literals
+null_extensions = refl
+
+pub null_query : message (codes "{\"type\":\"subscribe\",\"id\":\"a\",\"payload\":{\"query\":null}}") ≡ Bad
+unfolding serde_json_on_literals
+null_query = refl
+
+pub null_subscribe : message (codes "{\"type\":\"subscribe\",\"id\":\"a\",\"payload\":null}") ≡ Bad
+unfolding serde_json_on_literals
+null_subscribe = refl
+
+pub null_ping : message (codes "{\"type\":\"ping\",\"payload\":null}") ≡ Ping
+unfolding serde_json_on_literals
+null_ping = refl
+
+pub repeated_query : message (codes "{\"type\":\"subscribe\",\"id\":\"a\",\"payload\":{\"query\":\"\",\"query\":1}}") ≡ Bad
+unfolding serde_json_on_literals
+repeated_query = refl
+
+pub upper_case_type : message (codes "{\"type\":\"PING\"}") ≡ Bad
+unfolding serde_json_on_literals
+upper_case_type = refl
+
+pub more_behind : message (codes "{\"type\":\"ping\"}x") ≡ Bad
+unfolding serde_json_on_literals
+more_behind = refl
+
+-- a number that is no 64-bit float, and half of a surrogate pair, are no JSON to `serde_json`
+pub great_number : message (codes "{\"type\":\"ping\",\"more\":1e999}") ≡ Bad
+unfolding serde_json_on_literals
+great_number = refl
+
+pub lone_surrogate : message (codes "{\"type\":\"complete\",\"id\":\"\\ud800\"}") ≡ Bad
+unfolding serde_json_on_literals
+lone_surrogate = refl
+
+-- values nest at most 127 deep, in keys that are ignored too
+pub deepest : message (codes "{\"type\":\"ping\",\"more\":" ++ replicate 126 91 ++ replicate 126 93 ++ codes "}") ≡ Ping
+unfolding serde_json_on_literals
+deepest = refl
+
+pub too_deep : message (codes "{\"type\":\"ping\",\"more\":" ++ replicate 127 91 ++ replicate 127 93 ++ codes "}") ≡ Bad
+unfolding serde_json_on_literals
+too_deep = refl
 
 -- the texts of servers
 pub acknowledged : written server.Ack ≡ codes "{\"type\":\"connection_ack\"}"

@@ -1,5 +1,6 @@
 -- The codes and reasons with which a server closes a connection (the `graphql-transport-ws` protocol). A reason has at
--- most 123 bytes (RFC 6455, section 5.5), and is cut to whole characters.
+-- most 123 bytes (RFC 6455, section 5.5). That it is cut to whole characters, and the reason `Invalid message`, are this
+-- project's own.
 use Rattle.std.specs.Prelude.{ℕ, zero, suc, Bool, ◌&&◌, nat_le, nat_lt, if◌then◌else◌, List, ◌++◌, length, take, slice_index, codes}
 
 -- `Exists` has its whole reason, in which the subscription's id stands.

@@ -1,7 +1,7 @@
 -- The script that is generated from a number of subscribers, and the line that sums up its transcript. This project's own;
 -- the digest is that of FIPS 180-4.
 use Rattle.std.specs.Prelude.{ℕ, ◌+◌, ◌*◌, ◌%◌, ◌==◌, List, [], ◌∷◌, ◌++◌, length, map, filter, codes, decimal}
-use Rattle.std.specs.List.{flat_map, range_with_len}
+use Rattle.std.specs.List.{flat_map, join_with_byte, range_with_len}
 use Rattle.hex.specs.Hex.{encode_lower}
 use Rattle.sha2.specs.Sha256.{sha256}
 
@@ -19,20 +19,13 @@ metadata_lines =
     ∷ codes "---"
     ∷ []
 
-abbrev pub after_comma : List ℕ → List ℕ
-after_comma text = 44 ∷ text
-
-abbrev pub joined : List (List ℕ) → List ℕ
-joined [] = []
-joined (t ∷ ts) = t ++ flat_map after_comma ts
-
 -- user i is called `u` and its number
 abbrev pub insert_text : ℕ → List ℕ
 insert_text i = codes "{\"insert\":\"user\",\"row\":{\"id\":" ++ decimal i ++ codes ",\"name\":\"u" ++ decimal i ++ codes "\"}}"
 
--- one transaction inserts users 1 to n
+-- one transaction inserts users 1 to n, with a comma between two
 abbrev pub insert_line : ℕ → Line
-insert_line n = codes "commit [" ++ joined (map insert_text (range_with_len 1 n)) ++ codes "]"
+insert_line n = codes "commit [" ++ join_with_byte 44 (map insert_text (range_with_len 1 n)) ++ codes "]"
 
 -- the user that subscriber c of n asks for
 abbrev pub asked : ℕ → ℕ → ℕ

@@ -1,4 +1,5 @@
--- What servers send: the messages of the `graphql-transport-ws` protocol, each with its one text.
+-- What servers send: the messages of the `graphql-transport-ws` protocol, each with its one text. The order of their
+-- keys, `pong` without a payload, and `error` with one fault and its code are this project's own.
 use Rattle.std.specs.Prelude.{ℕ, List, ◌++◌, codes}
 use Rattle.json.specs.Print.{quoted}
 
