@@ -139,6 +139,7 @@ fn json_from(alloc: Global, value: &Value) -> Result<Str, FormFault>
     }
 }
 
+/// The value of a JSON text. `Form` where it is none.
 pub fn read_json(alloc: Global, text: &str) -> Result<serde_json::Value, FormFault>
     ensures ok { IfOk result (λ v. read text.now ≡ Some (json_view v)) }
     ensures bad { result ≡ Err FormFault.Form → read text.now ≡ None }

@@ -1,23 +1,15 @@
--- Lists that are read item by item, where each item is read.
-use Rattle.std.proofs.Common.{◌≡◌, List, [], ◌∷◌, ◌++◌, Option, Some, None, option_map, refl, ap, ◌∙◌, sym, append_assoc, Bool, ◌||◌, map, is_none}
+-- Lists that are tested and made part by part.
+use Rattle.std.proofs.Common.{◌≡◌, List, [], ◌∷◌, ◌++◌, refl, ap, ◌∙◌, sym, append_assoc, Bool, ◌||◌, map, is_none}
 use Rattle.std.proofs.lemmas.List.{map-append}
 use Rattle.std.proofs.lemmas.List.Folds.{list_any-append}
 use Rattle.std.specs.List.{list_any}
 use Rattle.data_model.specs.declared.catalog.Column.{Column}
-use Rattle.role_model.specs.JsonFilters.{with_first, filter_of}
+use Rattle.role_model.specs.JsonFilters.{filter_of}
 use Rattle.role_model.specs.MetadataFaults.{field_names, links_of, lacks_a_filter, json_of}
 use Rattle.role_model.specs.Texts.{Text}
 use Rattle.role_model.specs.declared.metadata.LinkEntry.{LinkEntry}
 use Rattle.role_model.specs.declared.metadata.PermissionEntry.{PermissionEntry}
 use Rattle.role_model.specs.declared.metadata.TableEntry.{TableEntry}
-
-appended : {A : Type 0} (found : List A) (x : A) (o : Option (List A)) → option_map (λ rest. (found ++ x ∷ []) ++ rest) o ≡ option_map (λ rest. found ++ rest) (with_first (Some x) o)
-appended found x None = refl
-appended found x (Some xs) = ap Some (append_assoc found (x ∷ []) xs)
-
--- one more item was read
-pub one_more : {A : Type 0} (found longer : List A) (x : A) (first : Option A) (others all : Option (List A)) → option_map (λ rest. found ++ rest) (with_first first others) ≡ all → Some x ≡ first → longer ≡ found ++ x ∷ [] → option_map (λ rest. longer ++ rest) others ≡ all
-one_more found longer x first others all told read pushed = rw pushed (appended found x others ∙ ap (λ f. option_map (λ rest. found ++ rest) (with_first f others)) read ∙ told)
 
 -- tests of parts of a list
 

@@ -7,9 +7,8 @@ ghost use Rattle.serde_json.specs.View.{view as json_view};
 ghost use Rattle.role_model.specs.JsonFilters.{filter_of};
 ghost use Rattle.role_model.specs.MetadataFaults.{wrong_version, too_many, bad_name, duplicate, no_table, no_column, bad_kind, bad_role, bad_filter, begins_name, goes_on_name, is_graphql_name, is_own_name, has_twice, links_of, field_names, root_names, table_number, columns_by, columns_of, has_column, kind_number, kind_in, same_kind, json_of, repeats_a_name, lacks_a_column, lacks_a_filter, link_lacks_a_column, table_lacks_a_column, links_other_kinds, has_a_bad_kind};
 
-use crate::json_filter::read_filter;
-use crate::names::Names;
 use data_model::Column;
+use filter_read::{Names, read_filter};
 use metadata_form::{FormFault, read_json};
 use role_model::{Document, Filter, LinkEntry, PermissionEntry, StrList, TableEntry};
 use scalar_val::{Kind, NoMemory, Str};
@@ -130,7 +129,7 @@ fn stands_in(name: &str, names: &[Str]) -> bool
     false
 }
 
-#[tactic(auto, using(crate::proofs::Places::twice_from_front))]
+#[tactic(auto, using(crate::proofs::Twice::twice_from_front))]
 fn repeats(alloc: Global, names: &[Str]) -> Result<bool, NoMemory>
     ensures { IfOk result (λ b. b ≡ has_twice names.now) }
 {

@@ -3,10 +3,8 @@
 
 mod faults;
 mod finding;
-mod json_filter;
 mod meaning;
 mod mentions;
-mod names;
 
 pub use finding::find_fault;
 pub use meaning::read_meaning;

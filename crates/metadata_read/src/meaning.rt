@@ -4,10 +4,9 @@ ghost use Rattle.std.specs.Option.{option_copied, option_to_list};
 ghost use Rattle.role_model.specs.MetadataFaults.{numbers_of, table_number, columns_of, table_def, link_def, link_defs, columns_by, grant_of, grant_for, role_def, role_names, session_names, meaning_of};
 
 use crate::faults::{json_in, table_by, table_place};
-use crate::json_filter::{column_place, number, read_filter};
-use crate::names::Names;
 use crate::mentions::{permission_of, role_names_of, session_names_of};
 use data_model::{Catalog, Column, ColumnDefList, ColumnList, TableDef, TableDefList};
+use filter_read::{Names, column_place, number, read_filter};
 use role_model::{
     Document, Grant, GrantList, LinkDef, LinkEntry, LinkList, LinkListList, Metadata,
     PermissionEntry, RoleDef, RoleList, TableEntry,

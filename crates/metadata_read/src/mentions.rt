@@ -1,68 +1,15 @@
-ghost use Rattle.std.specs.Prelude.{◌≡◌, ◌∷◌, [], if◌then◌else◌, IfOk, OnOk, map};
-ghost use Rattle.std.specs.List.{fold, list_any, flat_map};
+ghost use Rattle.std.specs.Prelude.{◌≡◌, ◌∷◌, [], IfOk, OnOk, map};
+ghost use Rattle.std.specs.List.{fold, flat_map};
 ghost use Rattle.std.specs.Option.{option_copied};
-ghost use Rattle.std.specs.Str.{bytes_eq, str_to_ascii_lowercase};
-ghost use Rattle.serde_json.specs.View.{view, items_view, members_view};
-ghost use Rattle.role_model.specs.JsonFilters.{names_session, with_text, distinct, mentions, mentions_of_items, mentions_of_members};
+ghost use Rattle.std.specs.Str.{bytes_eq};
+ghost use Rattle.role_model.specs.JsonFilters.{with_text, distinct};
 ghost use Rattle.role_model.specs.MetadataFaults.{mentions_by, permission_for, session_names, role_names};
 
 use crate::faults::json_in;
-use crate::json_filter::lowered_session_name;
-use crate::names::Names;
+use filter_read::{Names, push_mentions};
 use role_model::{PermissionEntry, TableEntry};
 use scalar_val::{NoMemory, Str};
-use serde_json::{Map, Value};
 use std::alloc::Global;
-
-fn push_mention(alloc: Global, text: &str, names: &mut Names) -> Result<(), NoMemory>
-    ensures { OnOk result (names.new ≡ fold with_text names.old (if names_session text.now then str_to_ascii_lowercase text.now ∷ [] else [])) }
-{
-    match lowered_session_name(alloc, text)? {
-        Some(name) => names.push(alloc, name),
-        None => Ok(()),
-    }
-}
-
-/// Adds the session variables that a JSON value names.
-#[cycle(mentions)]
-fn push_mentions(alloc: Global, value: &Value, names: &mut Names) -> Result<(), NoMemory>
-    ensures { OnOk result (names.new ≡ fold with_text names.old (mentions (view value.now))) }
-{
-    match value {
-        Value::String(text) => push_mention(alloc, text.as_str(), names),
-        Value::Array(values) => push_mentions_of_items(alloc, values, names),
-        Value::Object(map) => push_mentions_of_members(alloc, map, names),
-        _ => Ok(()),
-    }
-}
-
-#[cycle(mentions)]
-fn push_mentions_of_items(
-    alloc: Global,
-    values: &Vec<Value>,
-    names: &mut Names,
-) -> Result<(), NoMemory>
-    ensures { OnOk result (names.new ≡ fold with_text names.old (mentions_of_items (items_view values.now.items))) }
-{
-    'items: for value in values {
-        push_mentions(alloc, value, names)?;
-    }
-    Ok(())
-}
-
-#[cycle(mentions)]
-fn push_mentions_of_members(
-    alloc: Global,
-    map: &Map<String, Value>,
-    names: &mut Names,
-) -> Result<(), NoMemory>
-    ensures { OnOk result (names.new ≡ fold with_text names.old (mentions_of_members (members_view map.now.entries))) }
-{
-    'members: for (_name, value) in map.iter() {
-        push_mentions(alloc, value, names)?;
-    }
-    Ok(())
-}
 
 /// The permission of a table for a role.
 pub fn permission_of<'a>(table: &'a TableEntry, role: &str) -> Option<&'a PermissionEntry>

@@ -1,14 +1,11 @@
 -- What the forms of a document's values give: settings in their ranges, and lists that aren't empty.
-use Rattle.std.proofs.Common.{◌≡◌, ℕ, zero, suc, ◌<◌, ◌≤◌, ℤ, pos, negsuc, Bool, true, false, ◌&&◌, Option, Some, None, List, [], ◌∷◌, length, int_le, nat_le, unwrap_or, option_map, option_and_then, if◌then◌else◌, IsTrue, refl, subst, sym, ap, ◌∙◌, codes, arith}
+use Rattle.std.proofs.Common.{◌≡◌, ℕ, suc, ◌<◌, ◌≤◌, ℤ, pos, negsuc, Bool, true, false, ◌&&◌, Option, Some, None, List, [], ◌∷◌, length, int_le, nat_le, unwrap_or, option_map, option_and_then, if◌then◌else◌, refl, subst, ap, codes, arith}
 use Rattle.std.specs.List.{AllByRecursion}
-use Rattle.std.specs.Str.{bytes_eq}
 use Rattle.std.proofs.lemmas.Bool.Decides.{nat_tests}
-use Rattle.toml.specs.Data.{Data, Items, no_items, item, Members, get_member, as_str, as_bool, as_integer, as_array, as_table}
-use Rattle.data_model.specs.declared.catalog.Column.{Column}
+use Rattle.toml.specs.Data.{Data, Items, no_items, item, Members, get_member, as_str, as_integer, as_array, as_table}
 use Rattle.role_model.specs.declared.metadata.Document.{Document}
 use Rattle.role_model.specs.declared.metadata.TableEntry.{TableEntry}
 use Rattle.role_model.specs.declared.metadata.LinkEntry.{LinkEntry}
-use Rattle.role_model.specs.declared.metadata.PermissionEntry.{PermissionEntry}
 use Rattle.role_model.specs.Texts.{Text}
 use Rattle.role_model.specs.MetadataForm.{integer_from, nat_of, of_items, list_of, filled, filled_list_of, filled_text, required, may_be, optional, with_default, table_with, has_only, column_of, link_in, link_of, link_keys, permission_of, table_in, table_of, table_keys, document_in, document_of, document_keys}
 

@@ -1,6 +1,6 @@
 -- A filter that is read fits the rows of its table, where each session variable that it names has a slot.
-use Rattle.std.proofs.Common.{◌≡◌, ℕ, ◌+◌, ◌<◌, ◌≤◌, zero, suc, Bool, true, false, not, ◌&&◌, ◌||◌, Option, Some, None, List, [], ◌∷◌, ◌++◌, length, map, nat_lt, nat_le, is_none, is_some, unwrap_or, option_map, option_and_then, if◌then◌else◌, cond, IsTrue, refl, subst, sym, ap, ◌∙◌, position, find, codes, arith}
-use Rattle.std.specs.List.{list_any, list_all, AllByRecursion, slice_get, position_or_len}
+use Rattle.std.proofs.Common.{◌≡◌, ℕ, ◌<◌, ◌≤◌, suc, Bool, true, false, ◌&&◌, ◌||◌, Option, Some, None, List, [], ◌∷◌, length, map, nat_lt, is_none, is_some, unwrap_or, option_map, option_and_then, if◌then◌else◌, refl, subst, sym, ap, ◌∙◌, position, find, codes, arith}
+use Rattle.std.specs.List.{list_any, list_all, AllByRecursion, slice_get}
 use Rattle.std.specs.Str.{bytes_eq, str_to_ascii_lowercase}
 use Rattle.std.proofs.lemmas.Bool.Decides.{nat_tests}
 use Rattle.std.proofs.lemmas.Option.{slice_get_within}
@@ -10,8 +10,9 @@ use Rattle.scalar_val.specs.declared.val.Kind.{Kind}
 use Rattle.scalar_val.specs.declared.val.Val.{Val}
 use Rattle.scalar_val.specs.declared.val.Val.TheVariants as val
 use Rattle.scalar_val.specs.Spellings.{fitted}
-use Rattle.data_model.proofs.Lists.{or_false, out_parts}
+use Rattle.data_model.proofs.Lists.{out_parts}
 use Rattle.data_model.specs.declared.catalog.Column.{Column}
+use Rattle.filter_read.proofs.Places.{placed, position_here, position_past}
 use Rattle.role_model.specs.declared.filter.Binding.{Binding}
 use Rattle.role_model.specs.declared.filter.Filter.{Filter}
 use Rattle.role_model.specs.declared.filter.Filter.TheVariants as filter
@@ -21,8 +22,8 @@ use Rattle.role_model.specs.declared.filter.Items.{Items}
 use Rattle.role_model.specs.declared.filter.Items.TheVariants.{Each}
 use Rattle.role_model.specs.declared.filter.Op.{Op}
 use Rattle.role_model.specs.declared.filter.Operand.{Operand}
-use Rattle.role_model.specs.declared.filter.Operand.TheVariants.{Const, Sess}
-use Rattle.role_model.specs.JsonFilters.{with_first, of_each, of_each_member, names_session, session_variable, mentions, mentions_of_items, mentions_of_members, slot_of, scalar_of, constant, operand_by, operand_of, item_of, items_of, op_named, operator_of, operators_of, column_number, condition_on, column_condition, pair_of, filter_of, filters_of, filters_of_items, pairs_of}
+use Rattle.role_model.specs.declared.filter.Operand.TheVariants.{Const}
+use Rattle.role_model.specs.JsonFilters.{with_first, of_each, of_each_member, names_session, session_variable, mentions, mentions_of_items, mentions_of_members, slot_of, scalar_of, operand_by, operand_of, item_of, items_of, op_named, operator_of, operators_of, column_number, condition_on, column_condition, pair_of, filter_of, filters_of, filters_of_items, pairs_of}
 use Rattle.role_model.specs.Texts.{Text}
 use Rattle.role_model.specs.Truth.{fits, fits_step, itself, operand_fits, items_fit, operand_value, is_bool}
 
@@ -58,39 +59,6 @@ both_hold a b h k = rw (h, k) refl
 below : (n m : ℕ) → n < m → nat_lt n m ≡ true
 below n m h = grind (arith, nat_tests)
 
-above : (n m : ℕ) → nat_lt n m ≡ true → n < m
-above n m h = grind (arith, nat_tests)
-
-all_fail : {X : Type 0} (p : X → Bool) (xs : List X) → list_any p xs ≡ false → position_or_len p xs ≡ length xs
-all_fail p [] h = refl
-all_fail p (x ∷ xs) h = let parts = or_false (p x) (list_any p xs) h in rw (parts.0, all_fail p xs parts.1) (omega arith)
-
-not_below : (n : ℕ) → nat_lt n n ≡ false
-not_below n = grind (arith, nat_tests)
-
-no_place : (n : ℕ) → cond (nat_lt n n) (Some n) None ≡ None
-no_place n = rw (not_below n) refl
-
-none_placed : {X : Type 0} (p : X → Bool) (xs : List X) → list_any p xs ≡ false → position p xs ≡ None
-none_placed p xs h = rw (all_fail p xs h) (no_place (length xs))
-
-next_by : (b : Bool) (l n place : ℕ) → nat_lt l n ≡ b → cond b (Some l) None ≡ Some place → cond (nat_lt (1 + l) (suc n)) (Some (1 + l)) None ≡ Some (suc place)
-next_by true l n place h e =
-    let less = above l n h in
-    let same : l ≡ place = ap (λ o. unwrap_or o l) e in
-    let longer : 1 + l ≡ suc place = omega arith in
-    rw (below (1 + l) (suc n) (omega arith)) (ap (λ k. Some k) longer)
-next_by false l n place h e = cc
-
-next : (l n place : ℕ) → cond (nat_lt l n) (Some l) None ≡ Some place → cond (nat_lt (1 + l) (suc n)) (Some (1 + l)) None ≡ Some (suc place)
-next l n place e = next_by (nat_lt l n) l n place refl e
-
-at_front : (n : ℕ) → cond {A = Option ℕ} (nat_lt 0 (suc n)) (Some 0) None ≡ Some 0
-at_front n = rw (below 0 (suc n) (omega arith)) refl
-
-position_past : {X : Type 0} (p : X → Bool) (x : X) (xs : List X) (place : ℕ) → p x ≡ false → position p xs ≡ Some place → position p (x ∷ xs) ≡ Some (suc place)
-position_past p x xs place h e = rw h (next (position_or_len p xs) (length xs) place e)
-
 -- where one passes, its place, found from the front
 pub record First {X : Type 0} (p : X → Bool) (xs : List X) : Type 0 where
   pub place : ℕ
@@ -105,21 +73,21 @@ more_within : (place n : ℕ) → place < n → suc place < suc n
 more_within place n h = omega arith
 
 first_by : {X : Type 0} (p : X → Bool) (x : X) (xs : List X) → (b : Bool) → p x ≡ b → (list_any p xs ≡ true → First p xs) → (b || list_any p xs) ≡ true → First p (x ∷ xs)
-first_by p x xs true here rest h = record { place = 0; item = x; placed = rw here (at_front (length xs)); found = rw here refl; stands = refl; passes = here; within = omega arith }
+first_by p x xs true here rest h = record { place = 0; item = x; placed = position_here p x xs here; found = rw here refl; stands = refl; passes = here; within = omega arith }
 first_by p x xs false here rest h =
     let r = rest h in
-    record { place = suc r.place; item = r.item; placed = position_past p x xs r.place here r.placed; found = rw here r.found; stands = r.stands; passes = r.passes; within = more_within r.place (length xs) r.within }
+    record { place = suc r.place; item = r.item; placed = position_past p x xs here ∙ ap (option_map suc) r.placed; found = rw here r.found; stands = r.stands; passes = r.passes; within = more_within r.place (length xs) r.within }
 
 pub first : {X : Type 0} (p : X → Bool) (xs : List X) → list_any p xs ≡ true → First p xs
 first p [] h = cc
 first p (x ∷ xs) h = first_by p x xs (p x) refl (first p xs) h
 
+is_there : (o : Option ℕ) → is_none o ≡ false → is_some o ≡ true
+is_there (Some n) h = refl
+is_there None h = cc
+
 pub first_placed : {X : Type 0} (p : X → Bool) (xs : List X) → is_none (position p xs) ≡ false → First p xs
-first_placed p xs h = by (list_any p xs) refl
-  where
-    by : (b : Bool) → list_any p xs ≡ b → First p xs
-    by true e = first p xs e
-    by false e = let none = none_placed p xs e in cc
+first_placed p xs h = first p xs (sym (placed p xs) ∙ is_there (position p xs) h)
 
 slot_within : (names : List Text) (name : Text) → list_any (bytes_eq name) names ≡ true → slot_of names name < length names
 slot_within names name h = let f = first (bytes_eq name) names h in rw f.placed f.within

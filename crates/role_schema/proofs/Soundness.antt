@@ -1,6 +1,5 @@
 -- Metadata that is read is sound.
-use Rattle.std.proofs.Common.{◌≡◌, ℕ, ◌+◌, ◌<◌, ◌≤◌, zero, suc, Bool, true, false, not, ◌&&◌, ◌||◌, Option, Some, None, Ok, Err, Result, List, [], ◌∷◌, ◌++◌, length, map, nat_lt, nat_le, is_none, is_some, unwrap_or, option_map, option_and_then, if◌then◌else◌, IsTrue, refl, subst, sym, ap, ◌∙◌, position, find, codes, arith}
-use Rattle.std.specs.Cmp.Lexicographic.{pointwise}
+use Rattle.std.proofs.Common.{◌≡◌, ℕ, ◌+◌, ◌<◌, ◌≤◌, zero, suc, Bool, true, false, not, ◌&&◌, ◌||◌, Option, Some, None, Ok, Err, Result, List, [], ◌∷◌, ◌++◌, length, map, nat_lt, is_none, unwrap_or, option_map, if◌then◌else◌, refl, subst, sym, ap, ◌∙◌, arith}
 use Rattle.std.specs.List.{list_any, list_all, AllByRecursion, slice_get, flat_map, filter_map, cons_option, enumerate_from, fold}
 use Rattle.std.specs.Str.{bytes_eq}
 use Rattle.std.proofs.lemmas.Bool.Decides.{nat_tests}
@@ -9,32 +8,25 @@ use Rattle.std.proofs.lemmas.List.Folds.{list_any-append}
 use Rattle.std.proofs.lemmas.Option.{slice_get-map, slice_get_within}
 use Rattle.std.proofs.lemmas.Slice.Eq.{bytes_eq-Decides}
 use Rattle.toml.specs.Data.{Members}
-use Rattle.serde_json.specs.Data as json
-use Rattle.scalar_val.specs.declared.val.Kind.{Kind}
 use Rattle.data_model.proofs.Lists.{all_out, none_from_any, or_false, out_append, out_parts}
 use Rattle.data_model.specs.declared.catalog.Column.{Column}
-use Rattle.data_model.specs.declared.catalog.TableDef.{TableDef}
-use Rattle.role_model.specs.declared.filter.Binding.{Binding}
 use Rattle.role_model.specs.declared.filter.Filter.{Filter}
 use Rattle.role_model.specs.declared.metadata.Document.{Document}
 use Rattle.role_model.specs.declared.metadata.TableEntry.{TableEntry}
 use Rattle.role_model.specs.declared.metadata.LinkEntry.{LinkEntry}
 use Rattle.role_model.specs.declared.metadata.PermissionEntry.{PermissionEntry}
-use Rattle.role_model.specs.declared.metadata.LinkDef.{LinkDef}
 use Rattle.role_model.specs.declared.metadata.Grant.{Grant}
-use Rattle.role_model.specs.declared.metadata.RoleDef.{RoleDef}
 use Rattle.role_model.specs.declared.metadata.Metadata.{Metadata}
 use Rattle.role_model.specs.declared.metadata.MetaFault.{MetaFault}
 use Rattle.role_model.specs.declared.metadata.MetaFault.TheVariants.{TooLong}
-use Rattle.role_model.specs.JsonFilters.{column_number, mentions, distinct, with_text, filter_of}
+use Rattle.role_model.specs.JsonFilters.{column_number, mentions, with_text, filter_of}
 use Rattle.role_model.specs.MetadataForm.{document_of}
-use Rattle.role_model.specs.MetadataFaults.{links_of, table_number, columns_by, columns_of, has_column, kind_in, same_kind, json_of, wrong_version, too_many, bad_name, duplicate, no_table, lacks_a_column, link_lacks_a_column, table_lacks_a_column, no_column, links_other_kinds, has_a_bad_kind, bad_kind, bad_role, bad_filter, first_of, fault_of, numbers_of, table_def, link_def, link_defs, permission_for, mentions_by, session_names, grant_of, grant_for, role_def, role_names, meaning_of, judged_by, formed_by, parsed_by, toml_of, metadata_of}
+use Rattle.role_model.specs.MetadataFaults.{links_of, table_number, columns_of, has_column, kind_in, json_of, wrong_version, too_many, bad_name, duplicate, no_table, lacks_a_column, link_lacks_a_column, table_lacks_a_column, no_column, links_other_kinds, has_a_bad_kind, bad_kind, fault_of, numbers_of, table_def, link_def, link_defs, permission_for, mentions_by, session_names, grant_of, grant_for, role_def, role_names, meaning_of, judged_by, formed_by, parsed_by, toml_of, metadata_of}
 use Rattle.role_model.specs.Texts.{Text}
-use Rattle.role_model.specs.Truth.{fits}
-use Rattle.role_schema.proofs.Forms.{InRange, LinkForm, TableForm, DocumentForm, document_form, same, steps_of}
+use Rattle.role_schema.proofs.Forms.{LinkForm, TableForm, DocumentForm, document_form, same, steps_of}
 use Rattle.role_schema.proofs.Slots.{Known, First, first, first_placed, read_fits}
-use Rattle.role_schema.proofs.Uses.{found_holds, found_passes}
-use Rattle.role_schema.specs.Sound.{Sound, SoundTable, SoundLink, SoundLinks, SoundGrant, SoundRole, FitsRows, columns_in, columns_at, is_column, is_never_null, kind_at}
+use Rattle.role_schema.proofs.Uses.{found_holds}
+use Rattle.role_schema.specs.Sound.{Sound, SoundTable, SoundLink, SoundLinks, SoundGrant, SoundRole, columns_at, is_column, is_never_null, kind_at}
 
 -- lists
 

@@ -1,6 +1,6 @@
 use Rattle.std.proofs.Common.{◌≡◌, drop}
 use Rattle.role_model.specs.MetadataFaults.{has_twice}
-use Rattle.metadata_read.proofs.Places.{twice_after}
+use Rattle.metadata_read.proofs.Twice.{twice_after}
 use Rattle.metadata_read.proofs.faults.repeats.Given as goal
 
 -- what is left, after the names that were seen

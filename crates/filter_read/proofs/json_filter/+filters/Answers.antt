@@ -5,8 +5,8 @@ use Rattle.serde_json.specs.View.{view, items_view, members_view}
 use Rattle.serde_json.proofs.Views.{Entry}
 use Rattle.role_model.specs.JsonFilters.{filter_of, filters_of, filters_of_items, pair_of, pairs_of, column_condition}
 use Rattle.role_model.specs.Texts.{Text}
-use Rattle.metadata_read.proofs.Steps.{one_more}
-use Rattle.metadata_read.proofs.json_filter.+filters.Goals as goal
+use Rattle.filter_read.proofs.Steps.{one_more}
+use Rattle.filter_read.proofs.json_filter.+filters.Goals as goal
 
 pub read_pairs-members-preserved : goal.read_pairs-members-preserved
 read_pairs-members-preserved t c =

@@ -1,4 +1,4 @@
-ghost use Rattle.std.specs.Prelude.{◌≡◌, ◌++◌, ◌∷◌, [], OnOk, None, position};
+ghost use Rattle.std.specs.Prelude.{◌≡◌, ◌++◌, ◌∷◌, [], OnOk, OnErr, None, position};
 ghost use Rattle.std.specs.Str.{bytes_eq};
 ghost use Rattle.role_model.specs.JsonFilters.{with_text};
 
@@ -18,7 +18,7 @@ pub struct Names {
 impl Model for Names {
     ghost use Rattle.std.specs.Prelude.{List};
     ghost use Rattle.role_model.specs.Texts.{Text};
-    ghost use Rattle.metadata_read.specs.Places.{Finds};
+    ghost use Rattle.filter_read.specs.Places.{Finds};
 
     ghost Value = { List Text };
 
@@ -28,6 +28,7 @@ impl Model for Names {
 }
 
 impl Names {
+    /// No texts. It takes no memory.
     pub fn new(alloc: Global) -> Names
         ensures { result ≡ [] }
     {
@@ -54,10 +55,11 @@ impl Names {
         }
     }
 
-    /// Adds a text at the end that isn't there.
+    /// Adds a text at the end, if it isn't there. The texts stay as they were where memory is refused.
     #[tactic(auto, using(crate::proofs::Places::kept, crate::proofs::Places::grown, crate::proofs::Places::absent))]
     pub fn push(&mut self, alloc: Global, text: Str) -> Result<(), NoMemory>
-        ensures { OnOk result (self.new ≡ with_text self.old text) }
+        ensures ok { OnOk result (self.new ≡ with_text self.old text) }
+        ensures err { OnErr result (self.new ≡ self.old) }
     {
         if self.place(text.as_str()).is_some() {
             return Ok(());
@@ -68,7 +70,8 @@ impl Names {
     #[tactic(auto, using(crate::proofs::Places::finds_more))]
     fn push_new(&mut self, alloc: Global, text: Str) -> Result<(), NoMemory>
         requires { position (bytes_eq text) self.old ≡ None }
-        ensures { OnOk result (self.new ≡ self.old ++ text ∷ []) }
+        ensures ok { OnOk result (self.new ≡ self.old ++ text ∷ []) }
+        ensures err { OnErr result (self.new ≡ self.old) }
     {
         let key = String::from_str(alloc, text.as_str())?;
         let place = self.texts.len();
@@ -84,6 +87,7 @@ impl Names {
         }
     }
 
+    /// The texts in the order in which they came. It takes no memory.
     pub fn into_texts(self) -> StrList
         ensures { result ≡ self }
     {

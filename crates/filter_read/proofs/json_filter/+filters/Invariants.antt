@@ -1,7 +1,7 @@
 use Rattle.std.proofs.Common.{◌≡◌, ◌++◌, drop, option_map}
 use Rattle.serde_json.specs.View.{items_view, members_view}
 use Rattle.role_model.specs.JsonFilters.{filters_of_items, pairs_of}
-use Rattle.metadata_read.proofs.json_filter.+filters.Given as goal
+use Rattle.filter_read.proofs.json_filter.+filters.Given as goal
 
 abbrev pub invariant-read_each_filter-items : goal.invariant-read_each_filter-items
 invariant-read_each_filter-items l =

@@ -1,7 +1,7 @@
 use Rattle.std.proofs.Common.{◌≡◌, ◌++◌, drop, option_map}
 use Rattle.serde_json.specs.View.{items_view}
 use Rattle.role_model.specs.JsonFilters.{of_each, item_of}
-use Rattle.metadata_read.proofs.json_filter.read_items.Given as goal
+use Rattle.filter_read.proofs.json_filter.read_items.Given as goal
 
 abbrev pub invariant-loop-value : goal.invariant-loop-value
 invariant-loop-value l =

@@ -1,7 +1,7 @@
 use Rattle.std.proofs.Common.{◌≡◌, ◌++◌, option_map}
 use Rattle.serde_json.specs.View.{members_view}
 use Rattle.role_model.specs.JsonFilters.{of_each_member, operator_of}
-use Rattle.metadata_read.proofs.json_filter.read_each_operator.Given as goal
+use Rattle.filter_read.proofs.json_filter.read_each_operator.Given as goal
 
 abbrev pub invariant-members : goal.invariant-members
 invariant-members l =

@@ -4,8 +4,8 @@ use Rattle.serde_json.specs.View.{view, members_view}
 use Rattle.serde_json.proofs.Views.{Entry}
 use Rattle.role_model.specs.JsonFilters.{of_each_member, operator_of}
 use Rattle.role_model.specs.Texts.{Text}
-use Rattle.metadata_read.proofs.Steps.{one_more}
-use Rattle.metadata_read.proofs.json_filter.read_each_operator.Goals as goal
+use Rattle.filter_read.proofs.Steps.{one_more}
+use Rattle.filter_read.proofs.json_filter.read_each_operator.Goals as goal
 
 pub members-preserved : goal.members-preserved
 members-preserved c =

@@ -1,22 +1,20 @@
 -- Places of texts in a list, and a map that finds them.
-use Rattle.std.proofs.Common.{◌≡◌, ℕ, ◌+◌, ◌<◌, suc, Bool, true, false, ◌||◌, Option, Some, None, List, [], ◌∷◌, ◌++◌, length, String, Global, string_bytes, nat_lt, is_some, option_map, if◌then◌else◌, cond, refl, subst, sym, ap, ◌∙◌, position, arith}
+use Rattle.std.proofs.Common.{◌≡◌, ℕ, ◌+◌, ◌<◌, suc, Bool, true, false, ◌||◌, Option, Some, None, List, [], ◌∷◌, ◌++◌, length, String, Global, string_bytes, nat_lt, is_some, option_map, cond, refl, subst, sym, ap, ◌∙◌, position, arith}
 use Rattle.std.specs.List.{list_any, position_or_len}
 use Rattle.std.specs.BTreeMap.{BTreeMap, Updates}
 use Rattle.std.specs.Str.{bytes_eq}
 use Rattle.std.specs.String.{string_cmp}
 use Rattle.std.proofs.lemmas.Bool.Decides.{nat_tests}
-use Rattle.std.proofs.lemmas.List.Folds.{list_any-append}
 use Rattle.std.proofs.lemmas.Map.Text.{btree_map_updates_text}
 use Rattle.std.proofs.lemmas.Slice.Eq.{bytes_eq-Decides}
 use Rattle.role_model.specs.JsonFilters.{with_text}
-use Rattle.role_model.specs.MetadataFaults.{has_twice}
 use Rattle.role_model.specs.Texts.{Text}
-use Rattle.metadata_read.specs.Places.{Finds}
+use Rattle.filter_read.specs.Places.{Finds}
 
-below : (n m : ℕ) → n < m → nat_lt n m ≡ true
+pub below : (n m : ℕ) → n < m → nat_lt n m ≡ true
 below n m h = grind (arith, nat_tests)
 
-above : (n m : ℕ) → nat_lt n m ≡ true → n < m
+pub above : (n m : ℕ) → nat_lt n m ≡ true → n < m
 above n m h = grind (arith, nat_tests)
 
 not_below : (n : ℕ) → nat_lt n n ≡ false
@@ -25,7 +23,7 @@ not_below n = grind (arith, nat_tests)
 at_front : (n : ℕ) → cond {A = Option ℕ} (nat_lt 0 (suc n)) (Some 0) None ≡ Some 0
 at_front n = rw (below 0 (suc n) (omega arith)) refl
 
-position_here : {X : Type 0} (p : X → Bool) (x : X) (xs : List X) → p x ≡ true → position p (x ∷ xs) ≡ Some 0
+pub position_here : {X : Type 0} (p : X → Bool) (x : X) (xs : List X) → p x ≡ true → position p (x ∷ xs) ≡ Some 0
 position_here p x xs h = rw h (at_front (length xs))
 
 next_below : (l n : ℕ) → nat_lt (1 + l) (suc n) ≡ nat_lt l n
@@ -35,7 +33,7 @@ next : (b : Bool) (l : ℕ) → cond {A = Option ℕ} b (Some (1 + l)) None ≡ 
 next true l = ap (λ k. Some k) (omega arith)
 next false l = refl
 
-position_past : {X : Type 0} (p : X → Bool) (x : X) (xs : List X) → p x ≡ false → position p (x ∷ xs) ≡ option_map suc (position p xs)
+pub position_past : {X : Type 0} (p : X → Bool) (x : X) (xs : List X) → p x ≡ false → position p (x ∷ xs) ≡ option_map suc (position p xs)
 position_past p x xs h = rw (h, next_below (position_or_len p xs) (length xs)) (next (nat_lt (position_or_len p xs) (length xs)) (position_or_len p xs))
 
 some_next : (o : Option ℕ) → is_some (option_map suc o) ≡ is_some o
@@ -74,12 +72,12 @@ longer p [] x = alone (p x) refl
     alone false h = position_past p x [] h
 longer p (y ∷ ys) x = longer_by p y ys x (p y) refl (longer p ys x)
 
-same_text : (a b : Text) → bytes_eq a b ≡ true → a ≡ b
+pub same_text : (a b : Text) → bytes_eq a b ≡ true → a ≡ b
 same_text a b h = (bytes_eq-Decides a b).0 h
 
 -- a new text at the end
 
-turned : (a b : Text) (t : Bool) → bytes_eq a b ≡ false → bytes_eq b a ≡ t → t ≡ false
+pub turned : (a b : Text) (t : Bool) → bytes_eq a b ≡ false → bytes_eq b a ≡ t → t ≡ false
 turned a b true h k = sym ((bytes_eq-Decides a b).1 (sym (same_text b a k))) ∙ h
 turned a b false h k = refl
 
@@ -109,57 +107,3 @@ grown found x h = rw (sym (placed (bytes_eq x) found) ∙ h) refl
 pub absent : (o : Option ℕ) → is_some o ≡ false → o ≡ None
 absent (Some n) h = cc
 absent None h = refl
-
--- Names that stand twice, found from the front with those that were seen.
-
-symmetric_by : (a b : Text) (s t : Bool) → bytes_eq a b ≡ s → bytes_eq b a ≡ t → s ≡ t
-symmetric_by a b true t h k = sym ((bytes_eq-Decides b a).1 (sym (same_text a b h))) ∙ k
-symmetric_by a b false t h k = sym (turned a b t h k)
-
-symmetric : (a b : Text) → bytes_eq a b ≡ bytes_eq b a
-symmetric a b = symmetric_by a b (bytes_eq a b) (bytes_eq b a) refl refl
-
-spread_by : (a b p q : Bool) → ((a || (b || false)) || (p || q)) ≡ ((a || p) || (b || q))
-spread_by true b p q = refl
-spread_by false true true q = refl
-spread_by false true false q = refl
-spread_by false false p q = refl
-
-spread : (seen : List Text) (x : Text) (xs : List Text) → list_any (λ y. list_any (bytes_eq y) (seen ++ x ∷ [])) xs ≡ (list_any (λ y. list_any (bytes_eq y) seen) xs || list_any (bytes_eq x) xs)
-spread seen x [] = refl
-spread seen x (y ∷ ys) = rw (list_any-append (bytes_eq y) seen (x ∷ []), symmetric y x, spread seen x ys) (spread_by (list_any (bytes_eq y) seen) (bytes_eq x y) (list_any (λ y. list_any (bytes_eq y) seen) ys) (list_any (bytes_eq x) ys))
-
-joined_by : (c a b h : Bool) → c ≡ false → ((a || b) || h) ≡ ((c || a) || (b || h))
-joined_by true a b h e = cc
-joined_by false true b h e = refl
-joined_by false false b h e = refl
-
-name_seen : (seen : List Text) (x : Text) (xs : List Text) → is_some (position (bytes_eq x) seen) ≡ false → (list_any (λ y. list_any (bytes_eq y) (with_text seen x)) xs || has_twice xs) ≡ (list_any (λ y. list_any (bytes_eq y) seen) (x ∷ xs) || has_twice (x ∷ xs))
-name_seen seen x xs h =
-    let new = sym (placed (bytes_eq x) seen) ∙ h in
-    ap (λ names. list_any (λ y. list_any (bytes_eq y) names) xs || has_twice xs) (sym (grown seen x h))
-    ∙ ap (λ b. b || has_twice xs) (spread seen x xs)
-    ∙ joined_by (list_any (bytes_eq x) seen) (list_any (λ y. list_any (bytes_eq y) seen) xs) (list_any (bytes_eq x) xs) (has_twice xs) new
-
-name_twice : (seen : List Text) (x : Text) (xs : List Text) → is_some (position (bytes_eq x) seen) ≡ true → true ≡ (list_any (λ y. list_any (bytes_eq y) seen) (x ∷ xs) || has_twice (x ∷ xs))
-name_twice seen x xs h = rw (sym (placed (bytes_eq x) seen) ∙ h) refl
-
--- the rest, after these names
-abbrev pub twice_after : List Text → List Text → Bool
-twice_after seen [] = false
-twice_after seen (x ∷ xs) = if is_some (position (bytes_eq x) seen) then true else twice_after (with_text seen x) xs
-
-after_by : (seen : List Text) (x : Text) (xs : List Text) (b : Bool) → is_some (position (bytes_eq x) seen) ≡ b → (if b then true else (list_any (λ y. list_any (bytes_eq y) (with_text seen x)) xs || has_twice xs)) ≡ (list_any (λ y. list_any (bytes_eq y) seen) (x ∷ xs) || has_twice (x ∷ xs))
-after_by seen x xs true h = name_twice seen x xs h
-after_by seen x xs false h = name_seen seen x xs h
-
-after : (seen xs : List Text) → twice_after seen xs ≡ (list_any (λ y. list_any (bytes_eq y) seen) xs || has_twice xs)
-after seen [] = refl
-after seen (x ∷ xs) = ap (λ (rest : Bool). if is_some (position (bytes_eq x) seen) then true else rest) (after (with_text seen x) xs) ∙ after_by seen x xs (is_some (position (bytes_eq x) seen)) refl
-
-none_seen : (xs : List Text) → list_any (λ (y : Text). false) xs ≡ false
-none_seen [] = refl
-none_seen (x ∷ xs) = none_seen xs
-
-pub twice_from_front : (xs : List Text) → twice_after [] xs ≡ has_twice xs
-twice_from_front xs = after [] xs ∙ ap (λ b. b || has_twice xs) (none_seen xs)

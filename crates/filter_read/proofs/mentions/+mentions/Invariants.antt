@@ -2,7 +2,7 @@ use Rattle.std.proofs.Common.{◌≡◌, drop}
 use Rattle.std.specs.List.{fold}
 use Rattle.serde_json.specs.View.{items_view, members_view}
 use Rattle.role_model.specs.JsonFilters.{with_text, mentions_of_items, mentions_of_members}
-use Rattle.metadata_read.proofs.mentions.+mentions.Given as goal
+use Rattle.filter_read.proofs.mentions.+mentions.Given as goal
 
 abbrev pub invariant-push_mentions_of_items-items : goal.invariant-push_mentions_of_items-items
 invariant-push_mentions_of_items-items l =
