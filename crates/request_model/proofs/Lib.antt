@@ -2,4 +2,6 @@ pub mod FaultRules
 pub mod FirstFault
 pub mod SelectionRules
 mod SelectionRows
+pub mod ReadNames
+pub mod ReadLists
 pub mod Worked
