@@ -4,4 +4,6 @@ pub mod SelectionRules
 mod SelectionRows
 pub mod ReadNames
 pub mod ReadLists
+pub mod ReadAtoms
+pub mod ReadValues
 pub mod Worked
