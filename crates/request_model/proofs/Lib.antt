@@ -6,4 +6,6 @@ pub mod ReadNames
 pub mod ReadLists
 pub mod ReadAtoms
 pub mod ReadValues
+pub mod ReadParts
+pub mod ReadArguments
 pub mod Worked

@@ -38,7 +38,7 @@ digit_is_part b h = rw h refl
 
 digit_starts_none : (b : ℕ) → is_ascii_digit b ≡ true → starts_name b ≡ false
 digit_starts_none b h =
-    let most : b ≤ 57 = leb-true b 57 (and_parts _ _ h).1 in
+    let most : b ≤ 57 = leb-true b 57 (and_parts (leb 48 b) (leb b 57) h).1 in
     let upper : leb 65 b ≡ false = lt-leb 65 b (omega (arith, most)) in
     let lower : leb 97 b ≡ false = lt-leb 97 b (omega (arith, most)) in
     let line : (b == 95) ≡ false = ne_eqb b 95 (λ e. omega (arith, most, e)) in

@@ -120,7 +120,7 @@ first_form item pair (Quote s) r g = refl
 first_form item pair (Bracket items) r g = refl
 first_form item pair (Brace pairs) r g = refl
 
-part_opens : (b : ℕ) (t : Text) → is_part b ≡ true → IsTrue (opens (b ∷ t))
+pub part_opens : (b : ℕ) (t : Text) → is_part b ≡ true → IsTrue (opens (b ∷ t))
 part_opens b t h = rw (apart is_part b 32 h refl) (rw (apart is_part b 41 h refl) (rw (apart is_part b 44 h refl) (rw (apart is_part b 93 h refl) (rw (apart is_part b 125 h refl) refl))))
 
 pub shape_opens : (item : GValue → Text) (pair : GPair → Text) (s : Shape) → IsTrue (is_good s) → IsTrue (opens (shape_text item pair s))
