@@ -8,4 +8,5 @@ pub mod ReadAtoms
 pub mod ReadValues
 pub mod ReadParts
 pub mod ReadArguments
+pub mod ReadFields
 pub mod Worked

@@ -64,7 +64,7 @@ ValueTold = Told value_text (λ x. x) is_written_value
 abbrev PairTold : GPair → Type 0
 PairTold = Told pair_text (λ p. p) is_written_pair
 
-firsts : {X : Type 0} (P : X → Type 0) (es : List ((x : X) × P x)) → AllByRecursion P (map (λ e. e.0) es)
+pub firsts : {X : Type 0} (P : X → Type 0) (es : List ((x : X) × P x)) → AllByRecursion P (map (λ e. e.0) es)
 firsts P [] = tt
 firsts P (e ∷ es) = (e.1, firsts P es)
 
