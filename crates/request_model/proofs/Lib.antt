@@ -9,4 +9,5 @@ pub mod ReadValues
 pub mod ReadParts
 pub mod ReadArguments
 pub mod ReadFields
+pub mod TextsOfEssences
 pub mod Worked

@@ -94,18 +94,18 @@ pair_told p = pair_from_value p (value_told (out-GPair p).value)
 -- ---- a value whose pairs are written otherwise where it is an object
 
 module _ (pair : GPair → Text) (pair_is : GPair → GPair) where
-  abbrev object_by : Text → GValue-F GValue GPair → Text
+  abbrev pub object_by : Text → GValue-F GValue GPair → Text
   object_by other (GValue-F.Object pairs) = in_braces (map pair pairs)
   object_by other _ = other
 
-  abbrev object_told_by : GValue → GValue-F GValue GPair → GValue
+  abbrev pub object_told_by : GValue → GValue-F GValue GPair → GValue
   object_told_by x (GValue-F.Object pairs) = v.Object (map pair_is pairs)
   object_told_by x _ = x
 
-  abbrev object_text : GValue → Text
+  abbrev pub object_text : GValue → Text
   object_text x = object_by (value_text x) (out-GValue x)
 
-  abbrev object_told : GValue → GValue
+  abbrev pub object_told : GValue → GValue
   object_told x = object_told_by x (out-GValue x)
 
   object_shape : (f : GValue-F GValue GPair) → object_text (roll-GValue f) ≡ shape_text value_text pair (shape f)
@@ -149,18 +149,18 @@ module _ (pair : GPair → Text) (pair_is : GPair → GPair) where
 
 -- ---- a pair whose value is written otherwise under one name
 
-module _ (key : Text) (text : GValue → Text) (told : GValue → GValue) (tells : (x : GValue) → Told text told is_written_value x) where
-  abbrev keyed_text : GPair → Text
+module _ (key : Text) (text : GValue → Text) (told : GValue → GValue) where
+  abbrev pub keyed_text : GPair → Text
   keyed_text p = if bytes_eq (out-GPair p).name key then named_text (out-GPair p).name (text (out-GPair p).value) else pair_text p
 
-  abbrev keyed_told : GPair → GPair
+  abbrev pub keyed_told : GPair → GPair
   keyed_told p = if bytes_eq (out-GPair p).name key then renamed p (told (out-GPair p).value) else p
 
-  abbrev inner : Bool → GValue → Text
+  abbrev pub inner : Bool → GValue → Text
   inner true = text
   inner false = value_text
 
-  abbrev inner_told : Bool → GValue → GValue
+  abbrev pub inner_told : Bool → GValue → GValue
   inner_told true = told
   inner_told false = λ x. x
 
@@ -178,28 +178,29 @@ module _ (key : Text) (text : GValue → Text) (told : GValue → GValue) (tells
       go true = refl
       go false = sym (roll-out-GPair p)
 
-  abbrev keyed : ByName (λ name. bytes_eq name key) inner inner_told keyed_text keyed_told
+  pub keyed : ByName (λ name. bytes_eq name key) inner inner_told keyed_text keyed_told
   keyed = record { text_is = keyed_text_is; told_is = keyed_told_is }
-
-  inner_tells : (b : Bool) (x : GValue) → Told (inner b) (inner_told b) is_written_value x
-  inner_tells true x = tells x
-  inner_tells false x = value_told x
 
   keyed_open : Opens keyed_text is_written_pair
   keyed_open = by_name_opens (λ name. bytes_eq name key) inner inner_told keyed_text keyed_told keyed
 
-  keyed_tells : (p : GPair) → Told keyed_text keyed_told is_written_pair p
-  keyed_tells p = told_by_name (λ name. bytes_eq name key) inner inner_told keyed_text keyed_told keyed p (λ b. inner_tells b (out-GPair p).value)
+  module _ (tells : (x : GValue) → Told text told is_written_value x) where
+    inner_tells : (b : Bool) (x : GValue) → Told (inner b) (inner_told b) is_written_value x
+    inner_tells true x = tells x
+    inner_tells false x = value_told x
+
+    keyed_tells : (p : GPair) → Told keyed_text keyed_told is_written_pair p
+    keyed_tells p = told_by_name (λ name. bytes_eq name key) inner inner_told keyed_text keyed_told keyed p (λ b. inner_tells b (out-GPair p).value)
 
 -- ---- cursors
 
-abbrev hidden_text : GPair → Text
+abbrev pub hidden_text : GPair → Text
 hidden_text p = named_text (out-GPair p).name (codes "_")
 
-abbrev hidden_told : GPair → GPair
+abbrev pub hidden_told : GPair → GPair
 hidden_told p = renamed p v.Null
 
-abbrev hidden : ByName (λ name. true) (λ b x. codes "_") (λ b x. v.Null) hidden_text hidden_told
+abbrev pub hidden : ByName (λ name. true) (λ b x. codes "_") (λ b x. v.Null) hidden_text hidden_told
 hidden = record { text_is = λ p. refl; told_is = λ p. refl }
 
 hidden_open : Opens hidden_text is_written_pair
@@ -212,7 +213,7 @@ initial_tells : (x : GValue) → Told initial_text bare_initial is_written_value
 initial_tells = object_tells_all hidden_text hidden_told hidden_open hidden_tells
 
 cursor_pair_open : Opens cursor_pair is_written_pair
-cursor_pair_open = keyed_open (codes "initial_value") initial_text bare_initial initial_tells
+cursor_pair_open = keyed_open (codes "initial_value") initial_text bare_initial
 
 cursor_pair_tells : (p : GPair) → Told cursor_pair bare_pair is_written_pair p
 cursor_pair_tells = keyed_tells (codes "initial_value") initial_text bare_initial initial_tells
@@ -262,7 +263,7 @@ cursor_tells x = subst (Told cursor_text bare_cursor is_written_value) (roll-out
 -- ---- arguments
 
 pub argument_opens : Opens argument_text is_written_pair
-argument_opens = keyed_open (codes "cursor") cursor_text bare_cursor cursor_tells
+argument_opens = keyed_open (codes "cursor") cursor_text bare_cursor
 
 pub argument_tells : (p : GPair) → Told argument_text bare_argument is_written_pair p
 argument_tells = keyed_tells (codes "cursor") cursor_text bare_cursor cursor_tells
