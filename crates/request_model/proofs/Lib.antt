@@ -10,4 +10,5 @@ pub mod ReadParts
 pub mod ReadArguments
 pub mod ReadFields
 pub mod TextsOfEssences
+pub mod WrittenLexemes
 pub mod Worked
