@@ -11,4 +11,5 @@ pub mod ReadArguments
 pub mod ReadFields
 pub mod TextsOfEssences
 pub mod WrittenLexemes
+pub mod WrittenDocuments
 pub mod Worked

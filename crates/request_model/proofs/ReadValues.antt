@@ -177,7 +177,7 @@ module _ (item : GValue → Text) (pair : GPair → Text) (item_told : GValue �
 
 -- ---- a value and its shape
 
-written-roll : (f : GValue-F GValue GPair) → is_written_value (roll-GValue f) ≡ written_value_step (map-GValue GValue GPair Bool Bool is_written_value is_written_pair f)
+pub written-roll : (f : GValue-F GValue GPair) → is_written_value (roll-GValue f) ≡ written_value_step (map-GValue GValue GPair Bool Bool is_written_value is_written_pair f)
 written-roll f = fold-roll-GValue Bool Bool written_value_step written_pair_step f
 
 good_atom : (t : Text) → IsTrue (is_name t) → IsTrue (is_good (Atom t))
