@@ -12,4 +12,5 @@ pub mod ReadFields
 pub mod TextsOfEssences
 pub mod WrittenLexemes
 pub mod WrittenDocuments
+pub mod WrittenFlats
 pub mod Worked
