@@ -1,5 +1,5 @@
 -- The texts of arguments tell them, but for the value in a cursor's `initial_value`.
-use Rattle.std.proofs.Common.{◌≡◌, ℕ, Bool, true, false, if◌then◌else◌, List, [], ◌∷◌, ◌++◌, map, refl, ap, ap₂, sym, subst, ◌∙◌}
+use Rattle.std.proofs.Common.{◌≡◌, Bool, true, false, if◌then◌else◌, List, [], ◌∷◌, map, refl, ap, sym, subst, ◌∙◌}
 use Rattle.std.specs.Prelude.{IsTrue, codes}
 use Rattle.std.specs.Str.{bytes_eq}
 use Rattle.std.specs.List.{AllByRecursion}
@@ -7,7 +7,7 @@ use Rattle.request_model.specs.declared.document.GValue.{GValue}
 use Rattle.request_model.specs.declared.document.GValue.TheVariants as v
 use Rattle.request_model.specs.declared.document.GValue.TheVariants.{rolls-Many, rolls-Object}
 use Rattle.request_model.specs.declared.document.GPair.{GPair}
-use Rattle.request_model.specs.declared.document.GValue.TheOpen.{GValue-F, GPair-F}
+use Rattle.request_model.specs.declared.document.GValue.TheOpen.{GValue-F}
 use Rattle.request_model.specs.declared.document.GValue.TheViews.{out-GValue, roll-GValue, roll-out-GValue, out-roll-GValue, out-GPair, roll-GPair, roll-out-GPair, out-roll-GPair}
 use Rattle.request_model.specs.declared.document.GValue.TheFolds.{fold-roll-GValue, map-GValue, ind-GValue}
 use Rattle.request_model.specs.Strings.{Text}
@@ -15,9 +15,9 @@ use Rattle.request_model.specs.Canonical.{in_braces, named_text, value_step, pai
 use Rattle.request_model.specs.SelectionLaws.{is_written_pair, renamed, bare_initial, bare_pair, bare_object, bare_cursor_by, bare_cursor, bare_argument}
 use Rattle.request_model.proofs.SelectionRules.{pair_text-is}
 use Rattle.request_model.proofs.ReadNames.{tails}
-use Rattle.request_model.proofs.ReadLists.{Told, opens}
+use Rattle.request_model.proofs.ReadLists.{Told}
 use Rattle.request_model.proofs.ReadValues.{is_written_value, Shape, Atom, Dollar, Quote, Bracket, Brace, shape, value_of, shape_text, retold, EachPart, shaped}
-use Rattle.request_model.proofs.ReadParts.{ByShape, Opens, by_shape_opens, told_by_shape, all_of, each_of, ByName, by_name_opens, told_by_name}
+use Rattle.request_model.proofs.ReadParts.{ByShape, Opens, by_shape_opens, told_by_shape, each_of, ByName, by_name_opens, told_by_name}
 
 -- ---- values
 

@@ -1,6 +1,6 @@
 -- Values that are a name, an integer or a word: their texts tell them.
-use Rattle.std.proofs.Common.{◌≡◌, ℕ, ◌+◌, ◌<◌, ◌≤◌, Bool, true, false, not, cond, ◌&&◌, ◌||◌, ◌==◌, if◌then◌else◌, List, [], ◌∷◌, ◌++◌, length, drop, refl, ap, ap₂, sym, subst, ◌∙◌, inl, inr, ◌⊎◌, arith}
-use Rattle.std.proofs.lemmas.Bool.{false≢true, eqb-true, eq-eqb, ne_eqb, lt-leb, leb-true, cases_Bool, or_cases, or_left, or_right, or_from, and_parts, and_from, not-true}
+use Rattle.std.proofs.Common.{◌≡◌, ℕ, ◌+◌, ◌≤◌, Bool, true, false, cond, ◌&&◌, ◌==◌, [], ◌∷◌, length, refl, ap, sym, ◌∙◌, inl, inr, ◌⊎◌, arith}
+use Rattle.std.proofs.lemmas.Bool.{false≢true, eqb-true, ne_eqb, lt-leb, leb-true, cases_Bool, or_left, and_parts, and_from}
 use Rattle.std.proofs.lemmas.Slice.Eq.{bytes_eq-Decides}
 use Rattle.std.specs.Prelude.{IsTrue, slice_index, codes, leb}
 use Rattle.std.specs.Char.{is_ascii_digit}
@@ -10,7 +10,7 @@ use Rattle.request_model.specs.declared.document.GValue.{GValue}
 use Rattle.request_model.specs.declared.document.GPair.{GPair}
 use Rattle.request_model.specs.declared.document.GValue.TheOpen.{GValue-F}
 use Rattle.request_model.specs.Strings.{Text}
-use Rattle.request_model.specs.Lexemes.{starts_name, is_in_name, digits_len, int_len}
+use Rattle.request_model.specs.Lexemes.{starts_name, is_in_name, digits_len}
 use Rattle.request_model.specs.SelectionLaws.{is_name, is_int, is_enum}
 use Rattle.request_model.proofs.ReadNames.{is_part}
 
@@ -71,6 +71,7 @@ int_parts (b ∷ t) h = go (b == 45) refl (eqb-true _ _ (and_parts _ _ h).1)
     minus : (none : Bool) → cond none 0 (digits_len t + 1) ≡ length (b ∷ t) → digits_len t ≡ length t
     minus true h = absurd (omega (arith, h))
     minus false h = omega (arith, h)
+
     go : (signed : Bool) → (b == 45) ≡ signed → cond signed (cond (digits_len t == 0) 0 (digits_len t + 1)) (digits_len (b ∷ t)) ≡ length (b ∷ t) → IsTrue (list_all is_part (b ∷ t))
     go true e h = and_from (is_part b) (list_all is_part t) (ap is_part (eqb-true b 45 e)) (digits_parts t (minus (digits_len t == 0) h))
     go false e h = digits_parts (b ∷ t) h
@@ -83,9 +84,11 @@ int_starts_none (b ∷ t) h = go (b == 45) refl (eqb-true _ _ (and_parts _ _ h).
     first : (is_digit : Bool) → is_ascii_digit b ≡ is_digit → cond is_digit (1 + prefix_len is_ascii_digit t) 0 ≡ length (b ∷ t) → starts_name b ≡ false
     first true e h = digit_starts_none b e
     first false e h = absurd (omega (arith, h))
+
     digits : (zero_first : Bool) → (b == 48) ≡ zero_first → cond zero_first 1 (prefix_len is_ascii_digit (b ∷ t)) ≡ length (b ∷ t) → starts_name b ≡ false
     digits true e h = ap starts_name (eqb-true b 48 e)
     digits false e h = first (is_ascii_digit b) refl h
+
     go : (signed : Bool) → (b == 45) ≡ signed → cond signed (cond (digits_len t == 0) 0 (digits_len t + 1)) (digits_len (b ∷ t)) ≡ length (b ∷ t) → starts_name b ≡ false
     go true e h = ap starts_name (eqb-true b 45 e)
     go false e h = digits (b == 48) refl h

@@ -1,5 +1,5 @@
 -- Canonical texts tell the fields of a selection.
-use Rattle.std.proofs.Common.{◌≡◌, ℕ, Bool, true, false, ◌&&◌, ◌||◌, if◌then◌else◌, List, [], ◌∷◌, ◌++◌, map, refl, ap, ap₂, sym, subst, ◌∙◌, append_assoc, append-nil, arith}
+use Rattle.std.proofs.Common.{◌≡◌, ℕ, Bool, true, false, ◌&&◌, ◌||◌, if◌then◌else◌, List, [], ◌∷◌, ◌++◌, map, refl, ap, sym, subst, ◌∙◌, append_assoc, arith}
 use Rattle.std.proofs.lemmas.Bool.{false≢true, and_parts, and_from}
 use Rattle.std.proofs.lemmas.List.{append_cancel_left}
 use Rattle.std.proofs.lemmas.List.Folds.{list_all-map}
@@ -13,14 +13,13 @@ use Rattle.request_model.specs.declared.flat.Word.TheVariants as word
 use Rattle.request_model.specs.declared.flat.FlatField.{FlatField}
 use Rattle.request_model.specs.declared.flat.FlatField.TheOpen.{FlatField-F}
 use Rattle.request_model.specs.declared.flat.FlatField.TheViews.{out-FlatField, roll-FlatField, roll-out-FlatField}
-use Rattle.request_model.specs.declared.flat.FlatField.TheFolds.{fold-FlatField, fold-roll-FlatField, map-FlatField, ind-FlatField}
-use Rattle.request_model.specs.declared.flat.Flat.{Flat}
+use Rattle.request_model.specs.declared.flat.FlatField.TheFolds.{fold-FlatField, fold-roll-FlatField, ind-FlatField}
 use Rattle.request_model.specs.Strings.{Text}
 use Rattle.request_model.specs.Ordered.{placed, ordered}
 use Rattle.request_model.specs.Selection.{by_name}
-use Rattle.request_model.specs.Canonical.{parted, named_text, argument_text, in_parentheses, set_text, field_step, field_text, word_text, canonical}
-use Rattle.request_model.specs.SelectionLaws.{is_name, is_written_pair, itself, is_empty, written_field_step, is_written, bare_argument, bare_step, bare_field, essence, CanonicalTells}
-use Rattle.request_model.proofs.ReadNames.{tails, not_empty, is_part, is_close, closes, stops, closes_stops, read_part}
+use Rattle.request_model.specs.Canonical.{parted, named_text, argument_text, in_parentheses, set_text, field_step, field_text, word_text}
+use Rattle.request_model.specs.SelectionLaws.{is_name, is_written_pair, itself, is_empty, written_field_step, bare_argument, bare_step, bare_field, CanonicalTells}
+use Rattle.request_model.proofs.ReadNames.{tails, not_empty, is_close, closes, stops, closes_stops, read_part}
 use Rattle.request_model.proofs.ReadLists.{Told, opens, read_parted}
 use Rattle.request_model.proofs.ReadAtoms.{name_parts}
 use Rattle.request_model.proofs.ReadParts.{Opens, all_of, named_opens, read_named}
@@ -152,7 +151,7 @@ read_field f g q r all wf wg hq hr h =
     let names = read_named f.key g.key f.name g.name (rest_text f ++ q) (rest_text g ++ r) wf.key wg.key h1 in
     let h2 = ap (λ z. f.name ++ z) (sym (append_assoc (in_parentheses (map argument_text asf)) sf q)) ∙ names.1 ∙ ap (λ z. g.name ++ z) (append_assoc (in_parentheses (map argument_text asg)) sg r) in
     let called = read_part f.name g.name (in_parentheses (map argument_text asf) ++ (sf ++ q)) (in_parentheses (map argument_text asg) ++ (sg ++ r)) (name_parts f.name wf.name) (name_parts g.name wg.name)
-        (stops_rest (map argument_text asf) f.nested (map field_text f.fields) q hq) (stops_rest (map argument_text asg) g.nested (map field_text g.fields) r hr) h2 in
+    (stops_rest (map argument_text asf) f.nested (map field_text f.fields) q hq) (stops_rest (map argument_text asg) g.nested (map field_text g.fields) r hr) h2 in
     let arguments = read_arguments asf asg f.nested g.nested (map field_text f.fields) (map field_text g.fields) q r (ordered_all is_written_pair _ f.args wf.args) (ordered_all is_written_pair _ g.args wg.args) hq hr called.1 in
     let sets = read_set f.fields g.fields f.nested g.nested q r all wf.fields wg.fields wf.nested wg.nested hq hr arguments.1 in
     (bare-roll f ∙ roll_same _ _ _ _ _ _ _ _ _ _ names.0 called.0 arguments.0 sets.0 sets.1 ∙ sym (bare-roll g), sets.2)

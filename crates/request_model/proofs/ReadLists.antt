@@ -1,11 +1,11 @@
 -- Lists of texts that are read from their front.
-use Rattle.std.proofs.Common.{◌≡◌, ◌==◌, ℕ, Bool, true, false, not, List, [], ◌∷◌, ◌++◌, map, refl, ap, ap₂, sym, subst, ◌∙◌, append_assoc}
+use Rattle.std.proofs.Common.{◌≡◌, ◌==◌, ℕ, Bool, true, false, not, List, [], ◌∷◌, ◌++◌, map, refl, ap, ap₂, sym, ◌∙◌, append_assoc}
 use Rattle.std.proofs.lemmas.Bool.{false≢true, and_parts, not-true, eq-eqb}
 use Rattle.std.specs.Prelude.{IsTrue, flat_map}
 use Rattle.std.specs.List.{list_all, AllByRecursion}
 use Rattle.request_model.specs.Strings.{Text}
 use Rattle.request_model.specs.Canonical.{parted}
-use Rattle.request_model.proofs.ReadNames.{tails, apart, is_close, closes}
+use Rattle.request_model.proofs.ReadNames.{tails, is_close, closes}
 
 -- the text of x, where something that closes follows, tells `told x` and ends where it ends
 abbrev pub Told : {X : Type 0} → (X → Text) → (X → X) → (X → Bool) → X → Type 0
@@ -19,7 +19,6 @@ opens (b ∷ r) = not (is_close b)
 
 module _ {X : Type 0} (text : X → Text) (told : X → X) (good : X → Bool) (opened : (x : X) → IsTrue (good x) → IsTrue (opens (text x)))
     (between end : ℕ) (differ : (between == end) ≡ false) (between_closes : is_close between ≡ true) (end_closes : is_close end ≡ true) where
-
   abbrev more : List X → Text
   more xs = flat_map (λ u. between ∷ u) (map text xs)
 

@@ -1,10 +1,10 @@
 -- Texts that are read from their front: names and integers end where no byte of one follows.
-use Rattle.std.proofs.Common.{◌≡◌, ℕ, Bool, true, false, not, ◌&&◌, ◌||◌, ◌==◌, if◌then◌else◌, List, [], ◌∷◌, ◌++◌, refl, ap, ap₂, sym, subst, ◌∙◌, inl, inr, ◌⊎◌}
+use Rattle.std.proofs.Common.{◌≡◌, ℕ, Bool, true, false, not, ◌||◌, ◌==◌, List, [], ◌∷◌, ◌++◌, refl, ap, ap₂, sym, ◌∙◌, inl, inr, ◌⊎◌}
 use Rattle.std.proofs.lemmas.Bool.{false≢true, eqb-true, cases_Bool, or_cases, and_parts, not-true, not_from_false}
-use Rattle.std.specs.Prelude.{IsTrue, slice_index}
-use Rattle.std.specs.List.{list_all, prefix_len}
+use Rattle.std.specs.Prelude.{IsTrue}
+use Rattle.std.specs.List.{list_all}
 use Rattle.request_model.specs.Strings.{Text}
-use Rattle.request_model.specs.Lexemes.{starts_name, is_in_name}
+use Rattle.request_model.specs.Lexemes.{is_in_name}
 
 -- ---- lists
 
@@ -41,12 +41,15 @@ close_fails f h32 h41 h44 h93 h125 b h = last (or_cases _ (b == 125) h)
     second : ((b == 32) ≡ true) ⊎ ((b == 41) ≡ true) → f b ≡ false
     second (inl e) = at_byte f b 32 e h32
     second (inr e) = at_byte f b 41 e h41
+
     third : ((b == 32 || b == 41) ≡ true) ⊎ ((b == 44) ≡ true) → f b ≡ false
     third (inl e) = second (or_cases _ (b == 41) e)
     third (inr e) = at_byte f b 44 e h44
+
     fourth : ((b == 32 || b == 41 || b == 44) ≡ true) ⊎ ((b == 93) ≡ true) → f b ≡ false
     fourth (inl e) = third (or_cases _ (b == 44) e)
     fourth (inr e) = at_byte f b 93 e h93
+
     last : ((b == 32 || b == 41 || b == 44 || b == 93) ≡ true) ⊎ ((b == 125) ≡ true) → f b ≡ false
     last (inl e) = fourth (or_cases _ (b == 93) e)
     last (inr e) = at_byte f b 125 e h125

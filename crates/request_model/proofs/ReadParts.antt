@@ -1,23 +1,20 @@
 -- Texts of values by their shape, and of pairs by their name.
-use Rattle.std.proofs.Common.{◌≡◌, ℕ, Bool, true, false, not, if◌then◌else◌, List, [], ◌∷◌, ◌++◌, map, refl, ap, ap₂, sym, subst, ◌∙◌, append_assoc}
+use Rattle.std.proofs.Common.{◌≡◌, Bool, List, [], ◌∷◌, ◌++◌, refl, ap, ap₂, sym, subst, ◌∙◌, append_assoc}
 use Rattle.std.proofs.lemmas.Bool.{false≢true, and_parts}
-use Rattle.std.specs.Prelude.{IsTrue, codes}
-use Rattle.std.specs.Str.{bytes_eq}
+use Rattle.std.specs.Prelude.{IsTrue}
 use Rattle.std.specs.List.{list_all, AllByRecursion}
 use Rattle.request_model.specs.declared.document.GValue.{GValue}
-use Rattle.request_model.specs.declared.document.GValue.TheVariants as v
-use Rattle.request_model.specs.declared.document.GValue.TheVariants.{rolls-Many, rolls-Object, rolls-Null}
 use Rattle.request_model.specs.declared.document.GPair.{GPair}
-use Rattle.request_model.specs.declared.document.GValue.TheOpen.{GValue-F, GPair-F}
-use Rattle.request_model.specs.declared.document.GValue.TheViews.{out-GValue, roll-GValue, roll-out-GValue, out-roll-GValue, out-GPair, roll-GPair, roll-out-GPair, out-roll-GPair}
-use Rattle.request_model.specs.declared.document.GValue.TheFolds.{fold-GPair, fold-roll-GValue, fold_out-GPair, map-GValue, ind-GValue}
+use Rattle.request_model.specs.declared.document.GValue.TheOpen.{GValue-F}
+use Rattle.request_model.specs.declared.document.GValue.TheViews.{out-GValue, roll-GValue, roll-out-GValue, out-GPair, roll-GPair}
+use Rattle.request_model.specs.declared.document.GValue.TheFolds.{fold_out-GPair}
 use Rattle.request_model.specs.Strings.{Text}
-use Rattle.request_model.specs.Canonical.{parted, in_brackets, in_braces, named_text, value_step, pair_step, value_text, pair_text, initial_text, cursor_pair, cursor_object, cursor_text, argument_text}
-use Rattle.request_model.specs.SelectionLaws.{is_name, written_value_step, written_pair_step, is_written_pair, renamed, bare_initial, bare_pair, bare_object, bare_cursor, bare_argument}
-use Rattle.request_model.proofs.ReadNames.{tails, apart, is_part, is_close, closes, stops, closes_stops, read_part}
+use Rattle.request_model.specs.Canonical.{named_text}
+use Rattle.request_model.specs.SelectionLaws.{is_name, written_value_step, written_pair_step, is_written_pair, renamed}
+use Rattle.request_model.proofs.ReadNames.{tails, is_part, closes, read_part}
 use Rattle.request_model.proofs.ReadLists.{Told, opens}
 use Rattle.request_model.proofs.ReadAtoms.{name_parts}
-use Rattle.request_model.proofs.ReadValues.{is_written_value, Shape, Atom, Dollar, Quote, Bracket, Brace, shape, value_of, shape_text, retold, is_good, EachPart, part_opens, shape_opens, read_shape, good_shape, shaped}
+use Rattle.request_model.proofs.ReadValues.{is_written_value, Shape, Atom, Dollar, Quote, Bracket, Brace, shape, value_of, shape_text, retold, EachPart, part_opens, shape_opens, read_shape, good_shape}
 
 -- ---- a text by the shape of its value
 
@@ -32,7 +29,6 @@ Opens {X} text good = (x : X) → IsTrue (good x) → IsTrue (opens (text x))
 
 module _ (item : GValue → Text) (pair : GPair → Text) (item_told : GValue → GValue) (pair_told : GPair → GPair) (text : GValue → Text) (told : GValue → GValue)
     (s : ByShape item pair item_told pair_told text told) where
-
   pub by_shape_opens : Opens text is_written_value
   by_shape_opens x g =
       subst (λ y. IsTrue (is_written_value y) → IsTrue (opens (text y))) (roll-out-GValue x)
@@ -91,7 +87,6 @@ pub record ByName (test : Text → Bool) (inner : Bool → GValue → Text) (inn
 
 module _ (test : Text → Bool) (inner : Bool → GValue → Text) (inner_told : Bool → GValue → GValue) (pair : GPair → Text) (pair_told : GPair → GPair)
     (s : ByName test inner inner_told pair pair_told) where
-
   pub by_name_opens : Opens pair is_written_pair
   by_name_opens p g = subst (λ t. IsTrue (opens t)) (sym (s.text_is p)) (named_opens (out-GPair p).name _ (name_is_written p g))
 

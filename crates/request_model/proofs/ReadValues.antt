@@ -1,25 +1,22 @@
 -- The texts of values are read from their front.
-use Rattle.std.proofs.Common.{◌≡◌, ◌==◌, ℕ, Bool, true, false, not, ◌&&◌, if◌then◌else◌, List, [], ◌∷◌, ◌++◌, map, refl, ap, ap₂, sym, subst, ◌∙◌, append_assoc, arith}
-use Rattle.std.proofs.lemmas.Bool.{false≢true, and_parts, and_from, not_from_false}
+use Rattle.std.proofs.Common.{◌≡◌, ◌==◌, ℕ, Bool, true, false, ◌&&◌, List, [], ◌∷◌, ◌++◌, map, refl, ap, sym, ◌∙◌, append_assoc, arith}
+use Rattle.std.proofs.lemmas.Bool.{false≢true, and_parts}
 use Rattle.std.proofs.lemmas.List.{append_cancel_left}
 use Rattle.std.proofs.lemmas.List.Folds.{list_all-map}
 use Rattle.std.specs.Prelude.{IsTrue, codes, Option, Some}
-use Rattle.std.specs.Str.{bytes_eq}
 use Rattle.std.specs.List.{list_all, AllByRecursion}
 use Rattle.json.specs.Print.{escape, quoted}
 use Rattle.json.specs.Text.{content, plain}
 use Rattle.json.proofs.Printed.Strings.{content-escape}
 use Rattle.request_model.specs.declared.document.GValue.{GValue}
-use Rattle.request_model.specs.declared.document.GValue.TheVariants as v
-use Rattle.request_model.specs.declared.document.GValue.TheVariants.{rolls-Many, rolls-Object, rolls-Null}
 use Rattle.request_model.specs.declared.document.GPair.{GPair}
-use Rattle.request_model.specs.declared.document.GValue.TheOpen.{GValue-F, GPair-F}
-use Rattle.request_model.specs.declared.document.GValue.TheViews.{out-GValue, roll-GValue, roll-out-GValue, out-roll-GValue, out-GPair, roll-GPair, roll-out-GPair, out-roll-GPair}
-use Rattle.request_model.specs.declared.document.GValue.TheFolds.{fold-GValue, fold-GPair, fold-roll-GValue, fold_out-GPair, map-GValue, map-GPair, ind-GValue}
+use Rattle.request_model.specs.declared.document.GValue.TheOpen.{GValue-F}
+use Rattle.request_model.specs.declared.document.GValue.TheViews.{roll-GValue}
+use Rattle.request_model.specs.declared.document.GValue.TheFolds.{fold-GValue, fold-roll-GValue, map-GValue}
 use Rattle.request_model.specs.Strings.{Text}
-use Rattle.request_model.specs.Canonical.{parted, in_brackets, in_braces, named_text, value_step, pair_step, value_text, pair_text}
-use Rattle.request_model.specs.SelectionLaws.{is_name, is_int, is_enum, itself, written_value_step, written_pair_step, is_written_pair, renamed}
-use Rattle.request_model.proofs.ReadNames.{tails, apart, is_part, is_close, closes, stops, closes_stops, read_part}
+use Rattle.request_model.specs.Canonical.{parted, in_brackets, in_braces}
+use Rattle.request_model.specs.SelectionLaws.{is_name, itself, written_value_step, written_pair_step, is_written_pair}
+use Rattle.request_model.proofs.ReadNames.{tails, apart, is_part, closes, closes_stops, read_part}
 use Rattle.request_model.proofs.ReadLists.{Told, opens, read_parted}
 use Rattle.request_model.proofs.ReadAtoms.{name_parts, int_parts, atom_value, atom-Int, atom-Enum}
 
@@ -147,7 +144,6 @@ read_quoted s t q r h =
 
 module _ (item : GValue → Text) (pair : GPair → Text) (item_told : GValue → GValue) (pair_told : GPair → GPair)
     (item_opens : (x : GValue) → IsTrue (is_written_value x) → IsTrue (opens (item x))) (pair_opens : (p : GPair) → IsTrue (is_written_pair p) → IsTrue (opens (pair p))) where
-
   abbrev text_of : Shape → Text
   text_of = shape_text item pair
 

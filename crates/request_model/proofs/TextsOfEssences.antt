@@ -1,25 +1,25 @@
 -- Canonical texts depend on nothing but what they tell.
-use Rattle.std.proofs.Common.{◌≡◌, ℕ, Bool, true, false, List, [], ◌∷◌, ◌++◌, map, refl, ap, ap₂, sym, subst, ◌∙◌, append_assoc}
-use Rattle.std.specs.Prelude.{IsTrue, codes}
+use Rattle.std.proofs.Common.{◌≡◌, Bool, true, false, List, [], ◌∷◌, ◌++◌, map, refl, ap, ap₂, sym, subst, ◌∙◌}
+use Rattle.std.specs.Prelude.{codes}
 use Rattle.std.specs.Str.{bytes_eq}
 use Rattle.std.specs.List.{AllByRecursion}
 use Rattle.request_model.specs.declared.document.GValue.{GValue}
 use Rattle.request_model.specs.declared.document.GValue.TheVariants as v
 use Rattle.request_model.specs.declared.document.GPair.{GPair}
 use Rattle.request_model.specs.declared.document.GValue.TheOpen.{GValue-F, GPair-F}
-use Rattle.request_model.specs.declared.document.GValue.TheViews.{out-GValue, roll-GValue, roll-out-GValue, out-roll-GValue, outs-Many, outs-Object, out-GPair, roll-GPair, roll-out-GPair, out-roll-GPair}
+use Rattle.request_model.specs.declared.document.GValue.TheViews.{out-GValue, roll-GValue, roll-out-GValue, out-roll-GValue, outs-Many, outs-Object, out-GPair, roll-GPair, out-roll-GPair}
 use Rattle.request_model.specs.declared.flat.Word.{Word}
 use Rattle.request_model.specs.declared.flat.FlatField.{FlatField}
 use Rattle.request_model.specs.declared.flat.FlatField.TheOpen.{FlatField-F}
-use Rattle.request_model.specs.declared.flat.FlatField.TheViews.{out-FlatField, roll-FlatField}
+use Rattle.request_model.specs.declared.flat.FlatField.TheViews.{roll-FlatField}
 use Rattle.request_model.specs.declared.flat.FlatField.TheFolds.{fold-FlatField, fold-roll-FlatField, ind-FlatField}
 use Rattle.request_model.specs.declared.flat.Flat.{Flat}
 use Rattle.request_model.specs.Strings.{Text}
 use Rattle.request_model.specs.Selection.{by_name}
 use Rattle.request_model.specs.Canonical.{parted, in_brackets, in_braces, named_text, value_text, initial_text, cursor_pair, cursor_object, cursor_text_by, cursor_text, argument_text, in_parentheses, set_text, field_step, field_text, word_text, canonical}
-use Rattle.request_model.specs.SelectionLaws.{renamed, bare_initial, bare_pair, bare_object, bare_cursor_by, bare_cursor, bare_argument, bare_step, bare_field, essence, CanonicalTellsNoMore}
+use Rattle.request_model.specs.SelectionLaws.{bare_initial, bare_pair, bare_object, bare_cursor_by, bare_cursor, bare_argument, bare_step, bare_field, essence, CanonicalTellsNoMore}
 use Rattle.request_model.proofs.ReadParts.{ByName}
-use Rattle.request_model.proofs.ReadArguments.{firsts, object_by, object_told_by, object_text, object_told, inner, inner_told, keyed_text, keyed_told, keyed, hidden_text, hidden_told, hidden}
+use Rattle.request_model.proofs.ReadArguments.{firsts, object_by, object_told_by, object_text, object_told, inner, inner_told, keyed, hidden_text, hidden_told, hidden}
 
 each_same : {X Y : Type 0} (f : X → Y) (g : X → X) → ((x : X) → f (g x) ≡ f x) → (xs : List X) → map f (map g xs) ≡ map f xs
 each_same f g same [] = refl
@@ -57,6 +57,7 @@ module _ (pair : GPair → Text) (pair_is : GPair → GPair) (same : (p : GPair)
       go (GValue-F.Object ps) =
           ap (object_by pair pair_is (value_text (v.Object (map pair_is ps)))) (outs-Object (map pair_is ps)) ∙ ap in_braces (each_same pair pair_is same ps)
           ∙ sym (ap (object_by pair pair_is (value_text (roll-GValue (GValue-F.Object ps)))) (out-roll-GValue (GValue-F.Object ps)))
+
       rolled : (f : GValue-F GValue GPair) → the_text (object_told pair pair_is (roll-GValue f)) ≡ the_text (roll-GValue f)
       rolled f = ap (λ z. the_text (told_by (roll-GValue f) z)) (out-roll-GValue f) ∙ go f
 
@@ -94,6 +95,7 @@ cursor_same x = subst (λ z. cursor_text (bare_cursor z) ≡ cursor_text z) (rol
         let q = v.Object (map bare_pair ps) in
         let e : bare_object r ≡ q = ap (object_told_by cursor_pair bare_pair r) (out-roll-GValue (GValue-F.Object ps)) in
         ap (cursor_text_by (cursor_object q)) (outs-Object (map bare_pair ps)) ∙ ap cursor_object (sym e) ∙ cursor_object_same r
+
     go : (f : GValue-F GValue GPair) → cursor_text (bare_cursor_by (bare_object (roll-GValue f)) f) ≡ cursor_text (roll-GValue f)
     go (GValue-F.Var name) = alone (GValue-F.Var name) (λ b. refl) (λ t. refl) (as_object (GValue-F.Var name) (λ t. refl))
     go (GValue-F.Int t) = alone (GValue-F.Int t) (λ b. refl) (λ t. refl) (as_object (GValue-F.Int t) (λ t. refl))
@@ -105,6 +107,7 @@ cursor_same x = subst (λ z. cursor_text (bare_cursor z) ≡ cursor_text z) (rol
         ap (cursor_text_by (cursor_object (v.Many (map bare_object items)))) (outs-Many (map bare_object items)) ∙ ap in_brackets (each_same cursor_object bare_object cursor_object_same items)
         ∙ sym (ap (cursor_text_by (cursor_object (roll-GValue (GValue-F.Many items)))) (out-roll-GValue (GValue-F.Many items)))
     go (GValue-F.Object ps) = alone (GValue-F.Object ps) (λ b. refl) (λ t. refl) (object ps)
+
     rolled : (f : GValue-F GValue GPair) → cursor_text (bare_cursor (roll-GValue f)) ≡ cursor_text (roll-GValue f)
     rolled f = ap (λ z. cursor_text (bare_cursor_by (bare_object (roll-GValue f)) z)) (out-roll-GValue f) ∙ go f
 

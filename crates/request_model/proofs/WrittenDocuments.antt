@@ -1,5 +1,5 @@
 -- What lexemes say has the names and integers of the lexemes.
-use Rattle.std.proofs.Common.{◌≡◌, ◌≢◌, ℕ, Bool, true, false, not, ◌&&◌, ◌||◌, List, [], ◌∷◌, map, Option, Some, None, refl, ap, sym, subst, ◌∙◌, inl, inr, ◌⊎◌}
+use Rattle.std.proofs.Common.{◌≡◌, ◌≢◌, Bool, true, false, ◌&&◌, ◌||◌, List, ◌∷◌, map, Option, Some, None, refl, subst, ◌∙◌, inl, inr, ◌⊎◌}
 use Rattle.std.proofs.lemmas.Bool.{and_from, or_from, not_from_false, cases_Bool}
 use Rattle.std.proofs.lemmas.List.Folds.{list_all-map}
 use Rattle.std.proofs.lemmas.Slice.Eq.{bytes_eq-Decides}
@@ -9,8 +9,8 @@ use Rattle.std.specs.List.{list_all, AllByRecursion}
 use Rattle.request_model.specs.declared.document.GValue.{GValue}
 use Rattle.request_model.specs.declared.document.GValue.TheVariants as v
 use Rattle.request_model.specs.declared.document.GValue.TheVariants.{rolls-Var, rolls-Int, rolls-Text, rolls-Bool, rolls-Null, rolls-Enum, rolls-Many, rolls-Object}
-use Rattle.request_model.specs.declared.document.GValue.TheOpen.{GValue-F, GPair-F}
-use Rattle.request_model.specs.declared.document.GValue.TheViews.{roll-GValue, roll-GPair}
+use Rattle.request_model.specs.declared.document.GValue.TheOpen.{GValue-F}
+use Rattle.request_model.specs.declared.document.GValue.TheViews.{roll-GValue}
 use Rattle.request_model.specs.declared.document.GValue.TheFolds.{map-GValue, fold-roll-GPair}
 use Rattle.request_model.specs.declared.document.GPair.{GPair}
 use Rattle.request_model.specs.declared.document.Directive.{Directive}
@@ -26,9 +26,9 @@ use Rattle.request_model.specs.declared.document.Definition.{Definition}
 use Rattle.request_model.specs.declared.document.Definition.TheVariants as definition
 use Rattle.request_model.specs.declared.document.Document.{Document}
 use Rattle.request_model.specs.Strings.{Text, unescaped}
-use Rattle.request_model.specs.Grammar.{Lexeme, Punct, Spread, Name, Int, Quoted, end_bracket, end_brace, Many, no_more, one_more, MaybeName, no_name, a_name, IsValue, IsValues, IsPair, IsPairs, variable, integer, string, true_, false_, null, enum, list, object, no_values, more_values, a_pair, no_pairs, more_pairs, MaybeArguments, no_arguments, some_arguments, IsDirective, a_directive, Directives, IsType, named, named_strict, listed, listed_strict, MaybeDefault, no_default, a_default, IsVarDef, a_variable, MaybeVariables, no_variables, some_variables, IsFieldName, plain, aliased, IsSelection, IsSelections, IsSet, MaybeSet, field, spread, inline, inline_on, no_selections, more_selections, a_set, no_set, some_set, IsDefinition, shorthand, operation, fragment, IsDocument, a_document}
+use Rattle.request_model.specs.Grammar.{Lexeme, end_bracket, end_brace, Many, no_more, one_more, MaybeName, no_name, a_name, IsValue, IsValues, IsPair, IsPairs, variable, integer, string, true_, false_, null, enum, list, object, no_values, more_values, a_pair, no_pairs, more_pairs, MaybeArguments, no_arguments, some_arguments, IsDirective, a_directive, Directives, IsType, named, named_strict, listed, listed_strict, MaybeDefault, no_default, a_default, IsVarDef, a_variable, MaybeVariables, no_variables, some_variables, IsFieldName, plain, aliased, IsSelection, IsSelections, IsSet, MaybeSet, field, spread, inline, inline_on, no_selections, more_selections, a_set, no_set, some_set, IsDefinition, shorthand, operation, fragment, IsDocument, a_document}
 use Rattle.request_model.specs.Selection.{response_key}
-use Rattle.request_model.specs.SelectionLaws.{is_name, is_int, is_enum, itself, written_value_step, written_pair_step, is_written_pair}
+use Rattle.request_model.specs.SelectionLaws.{is_name, is_enum, itself, written_value_step, written_pair_step, is_written_pair}
 use Rattle.request_model.proofs.ReadValues.{is_written_value, written-roll}
 use Rattle.request_model.proofs.WrittenLexemes.{AreGood}
 
@@ -152,10 +152,9 @@ mutual
       let inner = maybe_good t3 rest set d (directives_rest false t2 t3 ds c arguments.1) in
       let key = is_name (response_key called.0 called.1) in
       let name = is_name called.1 in
-      let written = list_all is_written_pair args in
-      (
+      let written = list_all is_written_pair args in (
         good_as (Selection-F.Field called.0 called.1 args ds set) (s.Field called.0 called.1 args ds set) (rolls-Field called.0 called.1 args ds set)
-        (and_from (key && name && written) (list_all itself (map is_good_selection set)) (and_from (key && name) written (and_from key name names.0 names.1) arguments.0) (list_all-map itself is_good_selection set ∙ inner.0)),
+            (and_from (key && name && written) (list_all itself (map is_good_selection set)) (and_from (key && name) written (and_from key name names.0 names.1) arguments.0) (list_all-map itself is_good_selection set ∙ inner.0)),
         inner.1,
       )
   selection_good ts rest x (spread {n = n} {ts = us} {ds = ds} ne a) g = (good_as (Selection-F.Spread n ds) (s.Spread n ds) (rolls-Spread n ds) refl, directives_rest false us rest ds a g.1.1)

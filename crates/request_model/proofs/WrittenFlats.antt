@@ -5,27 +5,22 @@ use Rattle.std.proofs.lemmas.List.Folds.{list_all-map, list_all-append}
 use Rattle.std.specs.Prelude.{IsTrue, cond, flat_map, find}
 use Rattle.std.specs.Str.{bytes_eq}
 use Rattle.std.specs.List.{list_all, list_any, filter_map, cons_option, AllByRecursion}
-use Rattle.serde_json.specs.Data.{Members}
-use Rattle.request_model.specs.declared.document.GPair.{GPair}
-use Rattle.request_model.specs.declared.document.Directive.{Directive}
 use Rattle.request_model.specs.declared.document.Selection.{Selection}
 use Rattle.request_model.specs.declared.document.Selection.TheOpen.{Selection-F}
 use Rattle.request_model.specs.declared.document.Selection.TheViews.{roll-Selection}
 use Rattle.request_model.specs.declared.document.Selection.TheFolds.{map-Selection, para-roll-Selection, ind-Selection}
 use Rattle.request_model.specs.declared.document.Definition.{Definition}
 use Rattle.request_model.specs.declared.document.Definition.TheVariants as definition
-use Rattle.request_model.specs.declared.document.Document.{Document}
 use Rattle.request_model.specs.declared.flat.FlatField.{FlatField}
 use Rattle.request_model.specs.declared.flat.FlatField.TheOpen.{FlatField-F}
 use Rattle.request_model.specs.declared.flat.FlatField.TheViews.{roll-FlatField}
-use Rattle.request_model.specs.declared.flat.FlatField.TheFolds.{fold-FlatField, fold-roll-FlatField}
-use Rattle.request_model.specs.declared.flat.Flat.{Flat}
+use Rattle.request_model.specs.declared.flat.FlatField.TheFolds.{fold-roll-FlatField}
 use Rattle.request_model.specs.declared.flat.FlatFault.{FlatFault}
 use Rattle.request_model.specs.Strings.{Text}
-use Rattle.request_model.specs.Place.{Reads, lexemes_of}
+use Rattle.request_model.specs.Place.{lexemes_of}
 use Rattle.request_model.specs.Lexemes.{lexemes}
-use Rattle.request_model.specs.Selection.{Operation, Fragment, operation_of, fragment_of, operations, fragments, fragment_named, is_called, or_no_operation, only_one, chosen, Scope, is_dropped, Selected, Group, grouped, Collected, nothing, Collecting, in_order, noted, noted_if, with_visited, with_field, response_key, unless_dropped, selection_step, collect_one, collecting, visiting, spreading, collected, fields_of, inner_set, has_some, has_inner, most_levels, fields_down, scope, Flattens, flattened}
-use Rattle.request_model.specs.SelectionLaws.{is_name, is_written_pair, itself, is_empty, written_field_step, is_written, FlatsAreWritten}
+use Rattle.request_model.specs.Selection.{Operation, Fragment, operation_of, fragment_of, operations, fragment_named, is_called, or_no_operation, chosen, Scope, is_dropped, Selected, Group, grouped, Collected, nothing, Collecting, in_order, noted, noted_if, with_visited, with_field, response_key, unless_dropped, selection_step, collect_one, collecting, visiting, spreading, collected, fields_of, inner_set, has_some, has_inner, most_levels, fields_down, scope, flattened}
+use Rattle.request_model.specs.SelectionLaws.{is_name, is_written_pair, itself, is_empty, written_field_step, FlatsAreWritten}
 use Rattle.request_model.proofs.SelectionRules.{paired, second_of}
 use Rattle.request_model.proofs.ReadArguments.{firsts}
 use Rattle.request_model.proofs.ReadFields.{is_written_field}
@@ -97,7 +92,7 @@ module _ (where_ : Scope) (spread : Text → Collecting) (spread_keeps : (name :
       let two = and_parts (key && is_name name) written three.0 in
       let one = and_parts key (is_name name) two.0 in
       let good : GoodSelected (record { key = response_key alias name; name = name; args = args; select = inner }) =
-          record { key = one.0; name = one.1; args = two.1; select = sym (list_all-map itself is_good_selection inner) ∙ three.1 } in
+      record { key = one.0; name = one.1; args = two.1; select = sym (list_all-map itself is_good_selection inner) ∙ three.1 } in
       unless_keeps (is_dropped where_ ds) (with_field (record { key = response_key alias name; name = name; args = args; select = map (λ (e : Selection × Collecting). e.0) (map (λ x. (x, collect x)) inner) }))
       (λ c h. grouped_good _ c.groups (subst (λ xs. GoodSelected (record { key = response_key alias name; name = name; args = args; select = xs })) (sym (paired collect inner)) good) h)
   step_keeps (Selection-F.Spread name ds) each g = unless_keeps (is_dropped where_ ds) (spread name) (spread_keeps name)

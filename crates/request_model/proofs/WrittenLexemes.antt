@@ -1,13 +1,12 @@
 -- The names and integers among the lexemes of a text are names and integers.
-use Rattle.std.proofs.Common.{◌≡◌, ℕ, zero, suc, ◌+◌, ◌-◌, ◌<◌, Bool, true, false, cond, ◌&&◌, ◌||◌, ◌==◌, List, [], ◌∷◌, ◌++◌, length, take, drop, map, Option, Some, None, refl, ap, ap₂, sym, subst, ◌∙◌, inl, inr, ◌⊎◌, arith}
-use Rattle.std.proofs.lemmas.Bool.{false≢true, eq-eqb, eqb-true, eqb-false, lt-ltb, and_from, or_cases, or_left, or_right, or_parts, cond_both}
+use Rattle.std.proofs.Common.{◌≡◌, ℕ, zero, suc, ◌+◌, ◌-◌, ◌<◌, Bool, true, false, cond, ◌&&◌, ◌||◌, ◌==◌, List, [], ◌∷◌, length, take, drop, Option, Some, None, refl, ap, ap₂, sym, subst, ◌∙◌, inl, inr, ◌⊎◌, arith}
+use Rattle.std.proofs.lemmas.Bool.{false≢true, eq-eqb, lt-ltb, and_from, or_cases, or_left, or_right, or_parts, cond_both}
 use Rattle.std.proofs.lemmas.List.{drop-drop}
 use Rattle.std.proofs.lemmas.List.Folds.{length-prefix_len}
 use Rattle.std.specs.Prelude.{IsTrue, slice_index}
 use Rattle.std.specs.Char.{is_ascii_digit, is_ascii_alphabetic}
 use Rattle.std.specs.Int.{is_in_range}
-use Rattle.std.specs.List.{prefix_len, AllByRecursion, slice_range}
-use Rattle.request_model.specs.declared.token.Token.{Token}
+use Rattle.std.specs.List.{prefix_len, AllByRecursion}
 use Rattle.request_model.specs.declared.token.TokenKind.{TokenKind}
 use Rattle.request_model.specs.declared.token.TokenKind.TheVariants as kind
 use Rattle.request_model.specs.Strings.{Text, closed_from}
@@ -36,6 +35,7 @@ starts_in_name b h = last (or_cases (is_ascii_alphabetic b) (b == 95) h)
     letter : (is_in_range 65 90 b ≡ true) ⊎ (is_in_range 97 122 b ≡ true) → is_in_name b ≡ true
     letter (inl e) = or_left (is_ascii_digit b || is_in_range 65 90 b || is_in_range 97 122 b) (b == 95) (or_left (is_ascii_digit b || is_in_range 65 90 b) (is_in_range 97 122 b) (or_right (is_ascii_digit b) (is_in_range 65 90 b) e))
     letter (inr e) = or_left (is_ascii_digit b || is_in_range 65 90 b || is_in_range 97 122 b) (b == 95) (or_right (is_ascii_digit b || is_in_range 65 90 b) (is_in_range 97 122 b) e)
+
     last : (is_ascii_alphabetic b ≡ true) ⊎ ((b == 95) ≡ true) → is_in_name b ≡ true
     last (inl e) = letter (or_cases (is_in_range 65 90 b) (is_in_range 97 122 b) e)
     last (inr e) = or_right (is_ascii_digit b || is_in_range 65 90 b || is_in_range 97 122 b) (b == 95) e
@@ -81,6 +81,7 @@ int_taken (b ∷ z) h = go (b == 45) refl h
         let int_is : cond (b == 45) (cond (digits_len (take d z) == 0) 0 (digits_len (take d z) + 1)) (digits_len (b ∷ take d z)) ≡ d + 1 = rw m (rw (digits_taken z).0 (rw e refl)) in
         let next : suc d ≡ d + 1 = omega arith in
         subst (λ n. IsTrue (is_int (take n (b ∷ z)))) next (is_int_from (b ∷ take d z) (d + 1) (omega arith) int_is length_is)
+
     go : (c : Bool) → (b == 45) ≡ c → (cond c (cond (digits_len z == 0) 0 (digits_len z + 1)) (digits_len (b ∷ z)) == 0) ≡ false → IsTrue (is_int (take (cond c (cond (digits_len z == 0) 0 (digits_len z + 1)) (digits_len (b ∷ z))) (b ∷ z)))
     go true e k = minus (digits_len z == 0) refl e k
     go false e k =
@@ -110,13 +111,13 @@ unfolding front
 good_front b z =
     let G = GoodFront (b ∷ z) in
     cond_both (is_blank b) _ _ G (λ e. tt) (λ e1. cond_both (b == 35) _ _ G (λ e. tt) (λ e2. cond_both (is_mark (b ∷ z)) _ _ G (λ e. tt) (λ e3. cond_both (is_punct b) _ _ G (λ e. tt) (λ e4.
-        cond_both (b == 46) _ _ G (λ e. cond_both (slice_index (b ∷ z) 1 == 46 && slice_index (b ∷ z) 2 == 46) _ _ G (λ d. tt) (λ d. tt)) (λ e5.
-            cond_both (starts_name b) _ _ G (λ e. name_taken b z e) (λ e6.
-                cond_both (b == 34) _ _ G (λ e. cond_both (slice_index (b ∷ z) 1 == 34 && slice_index (b ∷ z) 2 == 34) _ _ G (λ d. tt) (λ d. good_closed (b ∷ z) (closed_from 0 z))) (λ e7.
-                    let n = int_len (b ∷ z) in
-                    let next = slice_index (b ∷ z) n in
-                    cond_both (n == 0 || is_in_name next || next == 46) _ _ G (λ d. tt)
-                    (λ d. int_taken (b ∷ z) (or_parts (n == 0) (is_in_name next) (or_parts (n == 0 || is_in_name next) (next == 46) d).0).0))))))))
+    cond_both (b == 46) _ _ G (λ e. cond_both (slice_index (b ∷ z) 1 == 46 && slice_index (b ∷ z) 2 == 46) _ _ G (λ d. tt) (λ d. tt)) (λ e5.
+    cond_both (starts_name b) _ _ G (λ e. name_taken b z e) (λ e6.
+    cond_both (b == 34) _ _ G (λ e. cond_both (slice_index (b ∷ z) 1 == 34 && slice_index (b ∷ z) 2 == 34) _ _ G (λ d. tt) (λ d. good_closed (b ∷ z) (closed_from 0 z))) (λ e7.
+    let n = int_len (b ∷ z) in
+    let next = slice_index (b ∷ z) n in
+    cond_both (n == 0 || is_in_name next || next == 46) _ _ G (λ d. tt)
+    (λ d. int_taken (b ∷ z) (or_parts (n == 0) (is_in_name next) (or_parts (n == 0 || is_in_name next) (next == 46) d).0).0))))))))
 
 -- ---- lexemes
 
@@ -144,6 +145,7 @@ good_from text zero at (b ∷ z) e = go (front (b ∷ z)) (good_front b z) (λ l
     found kind.Name n g = ap₂ (λ m y. is_name (take m y)) (taken at n) e ∙ g
     found kind.Int n g = ap₂ (λ m y. is_int (take m y)) (taken at n) e ∙ g
     found kind.Text n g = tt
+
     go : (f : Front) → GoodFront (b ∷ z) f → ((left : ℕ) → AreGood (lexemes_of text (lexemes_from left (at + 1) z).0)) → AreGood (lexemes_of text (with_front f at (λ left. lexemes_from left (at + 1) z)).0)
     go (Ignored n) g rest = rest (n - 1)
     go (Found k n) g rest = (found k n g, rest (n - 1))

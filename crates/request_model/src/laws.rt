@@ -15,10 +15,10 @@ pub fn flat_selections()
     ensures once { FlattensOnce }
 {}
 
-/// A canonical text tells its selection but for type conditions, the order of arguments and the value in a cursor's
-/// `initial_value`: written selections with equal texts differ in nothing else, and selections that differ in nothing
-/// else have equal texts. Written are those whose names are names and whose integers are integers as texts have them,
-/// and so is each flat selection of a text.
+/// A canonical text tells its selection but for the declared variables, the type conditions, the order of arguments and
+/// the value in a cursor's `initial_value`: written selections with equal texts differ in nothing else, and selections
+/// that differ in nothing else have equal texts. Written are those whose names are names and whose integers are integers
+/// as texts have them, and so is each flat selection of a text.
 pub fn canonical_texts()
     ensures tells { CanonicalTells }
     ensures no_more { CanonicalTellsNoMore }
