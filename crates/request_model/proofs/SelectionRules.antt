@@ -23,11 +23,11 @@ use Rattle.request_model.specs.Canonical.{value_step, pair_step, value_text, pai
 
 -- ---- selections
 
-paired : {A : Type 0} (f : Selection → A) (xs : List Selection) → map (λ (e : Selection × A). e.0) (map (λ x. (x, f x)) xs) ≡ xs
+pub paired : {A : Type 0} (f : Selection → A) (xs : List Selection) → map (λ (e : Selection × A). e.0) (map (λ x. (x, f x)) xs) ≡ xs
 paired f [] = refl
 paired f (x ∷ xs) = ap (λ ys. x ∷ ys) (paired f xs)
 
-second_of : {A : Type 0} (f : Selection → A) (xs : List Selection) → map (λ (e : Selection × A). e.1) (map (λ x. (x, f x)) xs) ≡ map f xs
+pub second_of : {A : Type 0} (f : Selection → A) (xs : List Selection) → map (λ (e : Selection × A). e.1) (map (λ x. (x, f x)) xs) ≡ map f xs
 second_of f [] = refl
 second_of f (x ∷ xs) = ap (λ ys. f x ∷ ys) (second_of f xs)
 

@@ -23,8 +23,8 @@ use Rattle.request_model.specs.Place.{Reads}
 use Rattle.request_model.specs.Selection.{by_name, Flattens}
 use Rattle.request_model.specs.Canonical.{canonical}
 
--- ---- what the canonical text tells of a selection: all but the type conditions, the order of arguments and the value
--- in a cursor's `initial_value`, in whose place null stands here
+-- ---- what the canonical text tells of a selection: all but the declared variables, the type conditions, the order of
+-- arguments and the value in a cursor's `initial_value`, in whose place null stands here
 
 abbrev pub renamed : GPair → GValue → GPair
 renamed p x = roll-GPair (record { name = (out-GPair p).name; value = x })

@@ -12,5 +12,5 @@ pub use document::{
     GValueList, OpWord, Selection, SelectionList, TypeRef, VarDef, VarDefList,
 };
 pub use flat::{Flat, FlatFault, FlatField, FlatFieldList, StrList, Word};
-pub use laws::{faults, flat_selections};
+pub use laws::{canonical_texts, faults, flat_selections};
 pub use token::{Token, TokenKind};
