@@ -1,20 +1,17 @@
 -- Which queries are admitted, test by test.
-use Rattle.std.proofs.Common.{◌≡◌, ◌∙◌, sym, ap, refl, ℕ, ◌-◌, Bool, true, false, ◌&&◌, if◌then◌else◌, Option, Some, None, List, [], map, length, take, drop}
+use Rattle.std.proofs.Common.{◌≡◌, ◌∙◌, sym, ap, ℕ, ◌-◌, Bool, true, false, ◌&&◌, if◌then◌else◌, Some, None, List, map, length, take, drop}
 use Rattle.std.proofs.lemmas.List.{length-map}
 use Rattle.std.specs.List.{list_all}
 use denote.Ref.{Bor}
-use Rattle.scalar_val.specs.declared.val.Val.TheVariants as val
-use Rattle.data_model.specs.declared.catalog.TableDef.{TableDef}
 use Rattle.role_model.specs.declared.metadata.Metadata.{Metadata}
-use Rattle.role_model.specs.Roles.{table_at, table_seen}
+use Rattle.role_model.specs.Roles.{table_seen}
 use Rattle.model.specs.Values.{same_text, is_name}
-use Rattle.model.specs.Queries.{Columns, SubscriptionWord, Live, SessionValue}
+use Rattle.model.specs.Queries.{Columns}
 use Rattle.model.specs.Forms.{piece}
 use Rattle.model.specs.Messages.{Request}
-use Rattle.model.specs.Admission.{Admission, Admits, Unread, admits, admits_selection, admits_columns, admitted_with, slots_by, slot_values, session_values, sees_columns, words, query_text, are_distinct}
+use Rattle.model.specs.Admission.{admits, admits_selection, admits_columns, words, query_text}
 use Rattle.model.specs.Built.{is_admitted}
-use Rattle.hub.specs.declared.plan.Plan.{Plan}
-use Rattle.hub.specs.Plans.{administrator, administrator_view, AreFields, IsPlanOf}
+use Rattle.hub.specs.Plans.{administrator, administrator_view}
 
 -- the parts of a query in the one form, and whether it has the form
 
@@ -53,40 +50,3 @@ columns_found ws text cs e w =
 
 pub form_found : (text t : List ℕ) (cs : List (List ℕ)) (b : Bool) → t ≡ table_in text → cs ≡ columns_in text → b ≡ has_form text t cs → has_form text (table_in text) (columns_in text) ≡ b
 form_found text t cs b et ec h = sym (h ∙ ap (λ (t : List ℕ). has_form text t cs) et ∙ ap (λ (cs : List (List ℕ)). has_form text (table_in text) cs) ec)
-
--- Columns of a table
-
-abbrev verdict : Metadata → List ℕ → List (List ℕ) → ℕ → Bool → Admission
-verdict meta name names table fine = if fine then admitted_with administrator.role (Columns name names) (session_values (administrator_view meta) administrator table) else Unread
-
-at_columns : (meta : Metadata) (name : List ℕ) (names : List (List ℕ)) (table : ℕ) (fine : Bool) → Some table ≡ table_seen (administrator_view meta) name → (are_distinct names && sees_columns (administrator_view meta) table names) ≡ fine → admits_columns (administrator_view meta) administrator name names (table_seen (administrator_view meta) name) ≡ verdict meta name names table fine
-at_columns meta name names table fine t e = ap (λ (o : Option ℕ). admits_columns (administrator_view meta) administrator name names o) (sym t) ∙ ap (verdict meta name names table) e
-
-and_false : (a : Bool) → (a && false) ≡ false
-and_false true = refl
-and_false false = refl
-
-pub no_table : (meta : Metadata) (name : List ℕ) (names : List (List ℕ)) → None ≡ table_seen (administrator_view meta) name → is_admitted (admits_columns (administrator_view meta) administrator name names (table_seen (administrator_view meta) name)) ≡ false
-no_table meta name names t = ap (λ (o : Option ℕ). is_admitted (admits_columns (administrator_view meta) administrator name names o)) (sym t)
-
-pub not_distinct : (meta : Metadata) (name : List ℕ) (names : List (List ℕ)) (table : ℕ) → Some table ≡ table_seen (administrator_view meta) name → are_distinct names ≡ false → is_admitted (admits_columns (administrator_view meta) administrator name names (table_seen (administrator_view meta) name)) ≡ false
-not_distinct meta name names table t d = ap is_admitted (at_columns meta name names table false t (ap (λ (b : Bool). b && sees_columns (administrator_view meta) table names) d))
-
-pub no_columns : (meta : Metadata) (name : List ℕ) (names : List (List ℕ)) (table : ℕ) → Some table ≡ table_seen (administrator_view meta) name → sees_columns (administrator_view meta) table names ≡ false → is_admitted (admits_columns (administrator_view meta) administrator name names (table_seen (administrator_view meta) name)) ≡ false
-no_columns meta name names table t s = ap is_admitted (at_columns meta name names table false t (ap (λ (b : Bool). are_distinct names && b) s ∙ and_false _))
-
-no_slots : (o : Option TableDef) → slots_by o None ≡ []
-no_slots None = refl
-no_slots (Some table) = refl
-
--- an administrator's queries have no session values
-no_session : (meta : Metadata) (table : ℕ) → session_values (administrator_view meta) administrator table ≡ Some []
-no_session meta table = ap (slot_values (administrator_view meta) administrator) (no_slots (table_at (administrator_view meta) table))
-
-pub plan_is : (meta : Metadata) (plan : Plan) (names : List (List ℕ)) → Some plan.table ≡ table_seen (administrator_view meta) plan.name → are_distinct names ≡ true → AreFields (administrator_view meta) plan.table names (Some plan.fields) → IsPlanOf meta (admits_columns (administrator_view meta) administrator plan.name names (table_seen (administrator_view meta) plan.name)) (Some plan)
-plan_is meta plan names t d f = (
-  at_columns meta plan.name names plan.table true t (ap (λ (b : Bool). b && sees_columns (administrator_view meta) plan.table names) d ∙ f.2)
-      ∙ ap (λ (o : Option (List SessionValue)). admitted_with administrator.role (Columns plan.name names) o) (no_session meta plan.table)
-      ∙ ap (λ (ns : List (List ℕ)). Admits (record { word = SubscriptionWord; kind = Live; role = administrator.role; selection = Columns plan.name ns; variables = []; session = [] }) val.Null) (sym f.0),
-  record { table = sym t; fields = f.1 },
-)

@@ -10,13 +10,13 @@ use Rattle.model.specs.Admission.{Admits, admits, Admission}
 use Rattle.model.specs.State as machine
 use Rattle.model.specs.State.{State, Event, Connect, Receive, Tick, Publish, ConnectionKnown, ConnectionUnknown, Did, Ticked, NotOpen, silent}
 use Rattle.model.specs.Connections as connections
-use Rattle.model.specs.Run.{happens, run}
-use Rattle.model.specs.Built.{is_built, is_built_message, is_admitted, knows}
-use Rattle.hub.specs.State.{Kept, state_of, knows_in}
-use Rattle.hub.specs.Replies.{Knows, ReceiveAnswers}
+use Rattle.model.specs.Run.{happens}
+use Rattle.model.specs.Built.{is_built, is_built_message, is_admitted}
+use Rattle.hub.specs.State.{state_of, knows_in}
+use Rattle.hub.specs.Replies.{ReceiveAnswers}
 use Rattle.hub.specs.declared.reply.ConnReply.TheVariants as conn_reply
 use Rattle.hub.specs.Jobs.{taking_of}
-use Rattle.hub.specs.Stands.{StandsFor, Does}
+use Rattle.hub.specs.Stands.{Does}
 use Rattle.hub.specs.Plans.{administrator, query_of}
 use Rattle.hub.specs.Parts.{by_option, by_subscription, changed, stands_as, is_idle, has_number, is_known, is_fresh, is_free, queues, queued_on, acknowledges, subscribes}
 use Rattle.hub.specs.Seen.{seen, connection_of}
@@ -72,13 +72,6 @@ unknown_did a conn (Some c) message h = quiet a (Some c) (Receive conn message) 
 pub unknown : (a : Inside) (conn : ℕ) (c : Option Connection) (message : Option messages.Message) → is_known conn c ≡ false → ReceiveAnswers (seen (record a { connection = c })) (seen (record a { connection = c; events = a.events + 1 })) conn message conn_reply.ConnUnknown
 unknown a conn c (Some message) h = unknown_did a conn c message h
 unknown a conn c None h = λ message. unknown_did a conn c message h
-
--- what the machine knows is what is kept
-pub knows_kept : (k : Kept) (conn : ℕ) (h : List Event) → StandsFor k h → knows (run k.meta h) conn ≡ knows_in k conn
-knows_kept k conn h st = ap (λ (s : State). knows s conn) st.state
-
-pub is_known_kept : (k : Kept) (conn : ℕ) → knows_in k conn ≡ true → Knows k conn
-is_known_kept k conn e h st = knows_kept k conn h st ∙ e
 
 -- a tick while nobody may be due
 ticks_none_by : (a : Inside) (c : Connection) (sub : Subscription) (st : Standing) → is_idle st ≡ false → Does (seen (record a { connection = Some (record c { subscription = Some (record sub { standing = st }) }) })) (seen (record a { connection = Some (record c { subscription = Some (record sub { standing = st }) }); events = a.events + 1 })) Tick (Ticked 0) []

@@ -1,7 +1,6 @@
 pub mod Histories
 pub mod Stands
 pub mod Pieces
-pub mod Places
 pub mod Same
 pub mod Cohorts
 pub mod Results

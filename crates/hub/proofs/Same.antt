@@ -1,6 +1,5 @@
 -- Tests that hold of a thing and itself.
-use Rattle.std.proofs.Common.{◌≡◌, refl, sym, ℕ, ◌==◌, Bool, true, false, ◌&&◌, not, T, subst, List, Ok, Err, is_err, OnOk}
-use Rattle.std.proofs.Common as common
+use Rattle.std.proofs.Common.{◌≡◌, refl, sym, ℕ, ◌==◌, Bool, true, false, ◌&&◌, not, T, subst, List}
 use lib.Pointwise.{bytes_decides}
 use lib.Dec.{eqb_refl, eqb→eq}
 use Rattle.model.specs.Values.{same_text}
@@ -46,7 +45,3 @@ poller_own q = and_true _ _ (and_true _ _ (word_own q.word) (text_own q.role)) (
 pub not_not : (b : Bool) → not b ≡ false → b ≡ true
 not_not true h = refl
 not_not false h = cc
-
-pub on_ok : {X E : Type 0} (r : common.Result X E) (P : Type 0) → is_err r ≡ false → OnOk r P → P
-on_ok (Ok x) P e h = h
-on_ok (Err y) P e h = cc
