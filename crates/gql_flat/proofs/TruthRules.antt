@@ -1,5 +1,6 @@
 -- Truth, and tests of numbers and texts.
-use Rattle.std.proofs.Common.{◌≡◌, ◌⊎◌, inl, inr, ◌<◌, ◌||◌, ◌&&◌, nat_eq, nat_lt, arith, refl, ℕ, Bool, true, false}
+use Rattle.std.proofs.Common.{◌≡◌, ◌⊎◌, inl, inr, ◌<◌, ◌||◌, ◌&&◌, nat_eq, nat_lt, arith, refl, subst, ℕ, Bool, true, false}
+use Rattle.std.specs.Bool.{MatchBool}
 use Rattle.std.specs.Str.{bytes_eq}
 use Rattle.std.proofs.lemmas.Bool.Decides.{nat_tests}
 use Rattle.std.proofs.lemmas.Slice.Eq.{bytes_eq-Decides}
@@ -46,3 +47,9 @@ same_text t u h = (bytes_eq-Decides t u).0 h
 
 pub own_text : (t : Text) → bytes_eq t t ≡ true
 own_text t = (bytes_eq-Decides t t).1 refl
+
+pub not_true : false ≡ true → ⊥
+not_true h = cc
+
+pub at_true : (b : Bool) (P Q : Type 0) → b ≡ true → MatchBool b P Q → P
+at_true b P Q e h = subst (λ x. MatchBool x P Q) e h

@@ -2,10 +2,14 @@
 #![tactic(auto)]
 
 mod canonical;
+mod collecting;
 mod copies;
+mod fields;
 mod graph;
 mod operation;
 mod ordered;
+mod refusals;
+mod same;
 mod scope;
 mod spreads;
 mod values_text;
