@@ -1,6 +1,6 @@
 -- How an object is collected.
-use Rattle.std.proofs.Common.{◌≡◌, ◌∙◌, ◌<◌, ◌≤◌, ◌+◌, sym, ap, refl, arith, ℕ, suc, Bool, true, false, not, if◌then◌else◌, List, [], ◌∷◌, ◌++◌, length, map, take, drop, get_or, set, Option, Some}
-use Rattle.std.specs.List.{list_any, flat_map, prefix_len, position_or_len}
+use Rattle.std.proofs.Common.{◌≡◌, ◌∙◌, ◌<◌, ◌≤◌, ◌+◌, sym, ap, refl, arith, ℕ, suc, Bool, true, false, not, if◌then◌else◌, List, [], ◌∷◌, ◌++◌, length, map, drop, get_or, set, Option, Some}
+use Rattle.std.specs.List.{list_any, flat_map, position_or_len}
 use Rattle.std.specs.Str.{bytes_eq}
 use Rattle.std.proofs.lemmas.List.{map-append}
 use Rattle.gql_flat.proofs.OrderRules.{from_place}
@@ -9,7 +9,7 @@ use Rattle.request_model.specs.declared.document.GPair.{GPair}
 use Rattle.request_model.specs.declared.document.Selection.{Selection}
 use Rattle.request_model.specs.declared.document.Selection.TheVariants as s
 use Rattle.request_model.specs.Strings.{Text}
-use Rattle.request_model.specs.Selection.{Scope, Fragment, fragment_named, Selected, Group, grouped, Collected, Collecting, in_order, noted, noted_if, with_visited, with_field, response_key, unless_dropped, is_dropped, collect_one, collecting, visiting, spreading, fields_of, inner_set}
+use Rattle.request_model.specs.Selection.{Scope, Fragment, fragment_named, Selected, Group, grouped, Collected, Collecting, in_order, noted, noted_if, with_visited, with_field, response_key, unless_dropped, is_dropped, collect_one, collecting, visiting, spreading}
 use Rattle.request_model.proofs.SelectionRules.{collect-Field, collect-Spread, collect-Inline}
 
 pub of_field : (scope : Scope) (spread : Text → Collecting) (alias : Option Text) (name : Text) (args : List GPair) (ds : List Directive) (set : List Selection) (c : Collected) →

@@ -1,12 +1,12 @@
 -- The fields of groups.
-use Rattle.std.proofs.Common.{◌≡◌, ◌∙◌, ◌⊎◌, inl, inr, ◌<◌, ◌≤◌, ◌+◌, ◌↔◌, max, sym, ap, refl, subst, arith, ℕ, zero, suc, nat_eq, Bool, true, false, List, [], ◌∷◌, ◌++◌, length, map, take, drop, get_or, IsTrue, append_assoc}
+use Rattle.std.proofs.Common.{◌≡◌, ◌∙◌, ◌⊎◌, inl, inr, ◌<◌, ◌≤◌, ◌+◌, ◌↔◌, max, sym, ap, refl, subst, arith, ℕ, zero, suc, nat_eq, Bool, true, false, List, [], ◌∷◌, ◌++◌, length, map, take, drop, get_or, IsTrue}
 use Rattle.std.proofs.lemmas.List.{map-append, take-append-drop}
 use Rattle.request_model.specs.declared.flat.FlatFault.{FlatFault}
 use Rattle.request_model.specs.declared.flat.FlatField.{FlatField}
 use Rattle.request_model.specs.declared.flat.FlatField.TheViews.{roll-FlatField}
 use Rattle.request_model.specs.declared.flat.FlatField.TheFolds.{fold-FlatField}
 use Rattle.request_model.specs.Strings.{Text}
-use Rattle.request_model.specs.Selection.{Scope, Group, Collected, collected, inner_set, fields_of, has_inner, fields_down, size, size_step, sum_of, levels, levels_step, max_of, most_fields, Some_of, Differ, FieldsConflict}
+use Rattle.request_model.specs.Selection.{Scope, Group, collected, inner_set, fields_of, has_inner, fields_down, size, size_step, sum_of, levels, levels_step, max_of, most_fields, Some_of, Differ, FieldsConflict}
 use Rattle.request_model.proofs.SelectionRules.{fold-field}
 use Rattle.std.specs.List.{list_any}
 use Rattle.gql_flat.specs.declared.fields.Tally.{Tally}

@@ -1,5 +1,5 @@
 -- How high the selections of fragments are.
-use Rattle.std.proofs.Common.{◌≡◌, ◌<◌, ◌≤◌, ◌+◌, ◌*◌, max, arith, refl, ap, ◌∙◌, if◌then◌else◌, ℕ, Bool, true, false, List, [], ◌∷◌, Option, Some, None, subst}
+use Rattle.std.proofs.Common.{◌≡◌, ◌<◌, ◌≤◌, ◌+◌, ◌*◌, max, arith, refl, ap, ◌∙◌, if◌then◌else◌, ℕ, Bool, true, false, List, [], ◌∷◌, Some, subst}
 use Rattle.std.specs.List.{find}
 use denote.Param.Weighed.{most}
 use Rattle.request_model.proofs.document.Selection.TheLaws.{the_size}

@@ -6,3 +6,4 @@ pub mod OrderRules
 pub mod PartRules
 pub mod ReachRules
 pub mod TruthRules
+pub mod WholeRules

@@ -1,11 +1,11 @@
 -- The fragments that are reached are those at the places that are reached.
-use Rattle.std.proofs.Common.{◌≡◌, ◌∙◌, ◌⊎◌, inl, inr, ◌<◌, ◌||◌, ◌&&◌, ◌↔◌, nat_eq, nat_lt, sym, ap, refl, subst, arith, ℕ, zero, suc, Bool, true, false, if◌then◌else◌, List, [], ◌∷◌, length, map, get_or, Option, Some, None, IsTrue}
+use Rattle.std.proofs.Common.{◌≡◌, ◌∙◌, ◌⊎◌, inl, inr, ◌<◌, ◌||◌, ◌&&◌, ◌↔◌, nat_eq, nat_lt, sym, ap, refl, subst, ℕ, zero, suc, Bool, true, false, if◌then◌else◌, List, [], ◌∷◌, length, map, Option, Some, None, IsTrue}
 use Rattle.std.specs.Prelude.{filter, unwrap_or}
-use Rattle.std.specs.List.{list_any, list_all, position_or_len, slice_get, find}
+use Rattle.std.specs.List.{list_any, list_all, slice_get, find}
 use Rattle.std.specs.Option.{option_map}
 use Rattle.std.specs.Str.{bytes_eq}
 use Rattle.std.proofs.lemmas.List.Folds.{find_at}
-use Rattle.std.proofs.lemmas.Option.{slice_get-map, slice_get_within, slice_get-get_or, get_or_from_slice_get, unwrap_or-slice_get}
+use Rattle.std.proofs.lemmas.Option.{slice_get-map, slice_get_within, get_or_from_slice_get, unwrap_or-slice_get}
 use Rattle.request_model.specs.declared.document.Selection.{Selection}
 use Rattle.request_model.specs.Strings.{Text}
 use Rattle.std.proofs.lemmas.List.{length-map}

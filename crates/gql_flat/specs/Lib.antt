@@ -6,3 +6,4 @@ pub mod Refusals
 pub mod Scopes
 pub mod Texts
 pub mod Walks
+pub mod Whole

@@ -5,6 +5,7 @@ mod canonical;
 mod collecting;
 mod copies;
 mod fields;
+mod flattening;
 mod graph;
 mod operation;
 mod ordered;
@@ -16,4 +17,5 @@ mod values_text;
 mod walks;
 
 pub use canonical::canon;
+pub use flattening::flatten;
 pub use request_model::{Flat, FlatFault, FlatField, FlatFieldList, StrList, Word};

@@ -1,4 +1,4 @@
-use Rattle.std.proofs.Common.{◌∙◌, ap, sym, arith, slice_set}
+use Rattle.std.proofs.Common.{◌∙◌, ap, arith, slice_set}
 use Rattle.std.proofs.lemmas.Result.{on_ok_weaker}
 use Rattle.gql_flat.proofs.CollectRules.{joins, begins}
 use Rattle.gql_flat.proofs.collecting.add_field.Goals as goal
