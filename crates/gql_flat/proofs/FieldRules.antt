@@ -36,7 +36,6 @@ some_right : {X : Type 0} (P : X → Type 0) (xs ys : List X) → Some_of P ys �
 some_right P [] ys s = s
 some_right P (x ∷ xs) ys s = inr (some_right P xs ys s)
 
-
 in_first : {A B C : Type 0} → B ⊎ C → (A ⊎ B) ⊎ C
 in_first (inl b) = inl (inr b)
 in_first (inr c) = inr c
@@ -180,12 +179,12 @@ module _ (s : Scope) where
       f ≡ roll-FlatField (record { key = g.first.key; name = g.first.name; args = g.first.args; nested = list_any has_inner (fields_of g); conditions = cs; fields = fs }) → cs ≡ (collected s (inner_set g)).conditions →
       AreFields s down (g ∷ []) b a (f ∷ [])
   one low down g b m a fs f cs e c x ef ec = subst (λ n. AreFields s n (g ∷ []) b a (f ∷ [])) (sym e) (record {
-      are = ap (λ h. h ∷ []) is;
-      counted = omega (arith, c.counted, x.counted, ap (λ h. size (h ∷ [])) is, size_of (suc low) g, ap size x.are);
-      few = x.few;
-      high = omega (arith, x.high, ap (λ h. levels (h ∷ [])) is, levels_of (suc low) g, ap levels x.are);
-      conflict = (λ h. up (x.conflict.0 h), down_to);
-    })
+    are = ap (λ h. h ∷ []) is;
+    counted = omega (arith, c.counted, x.counted, ap (λ h. size (h ∷ [])) is, size_of (suc low) g, ap size x.are);
+    few = x.few;
+    high = omega (arith, x.high, ap (λ h. levels (h ∷ [])) is, levels_of (suc low) g, ap levels x.are);
+    conflict = (λ h. up (x.conflict.0 h), down_to);
+  })
     where
       is : f ≡ field_down s (suc low) g
       is = ef ∙ ap (λ ts. roll-FlatField (record { key = g.first.key; name = g.first.name; args = g.first.args; nested = list_any has_inner (fields_of g); conditions = ts; fields = fs })) ec ∙ ap (λ hs. roll-FlatField (record { key = g.first.key; name = g.first.name; args = g.first.args; nested = list_any has_inner (fields_of g); conditions = (collected s (inner_set g)).conditions; fields = hs })) x.are

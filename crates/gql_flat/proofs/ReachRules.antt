@@ -181,7 +181,8 @@ module _ (fs : List Fragment) (set : List Selection) (marks : List Bool) (are : 
   pub reached_fails : (test : Fragment → Bool) → IsTrue (some_marked_fails test marks fs) ↔ ((f : Fragment) × IsReached fs set f × IsTrue (test f))
   reached_fails test = (
     λ h. let x = fails_at test marks fs h in (x.fragment, from_place fs set ((are x.at).0 x.marked) x.fragment x.here, x.fails),
-    λ r. let p = placed fs set r.0 r.1 in of_failing test marks fs p.place r.0 ((are p.place).1 p.reached) p.here r.2)
+    λ r. let p = placed fs set r.0 r.1 in of_failing test marks fs p.place r.0 ((are p.place).1 p.reached) p.here r.2,
+  )
 
   to_cycle : (k : ℕ) (o : Option Fragment) → slice_get fs k ≡ o → Reaches (edges_of fs) (targets_of fs set) k → Reaches (edges_of fs) (targets_at (edges_of fs) k) k → (f : Fragment) × IsReached fs set f × IsReached fs f.select f
   to_cycle k (Some f) here r c = (f, from_place fs set r f here, from_place fs f.select (subst (λ ts. Reaches (edges_of fs) ts k) (targets_of_place fs k f here) c) f here)

@@ -11,13 +11,13 @@ use Rattle.gql_flat.specs.declared.fields.Tally.{Tally}
 -- the field of a group, with the fields in it down to so many levels
 abbrev pub field_down : Scope → ℕ → Group → FlatField
 field_down s down g = roll-FlatField (record {
-    key = g.first.key;
-    name = g.first.name;
-    args = g.first.args;
-    nested = list_any has_inner (fields_of g);
-    conditions = (collected s (inner_set g)).conditions;
-    fields = fields_down s down (inner_set g);
-  })
+  key = g.first.key;
+  name = g.first.name;
+  args = g.first.args;
+  nested = list_any has_inner (fields_of g);
+  conditions = (collected s (inner_set g)).conditions;
+  fields = fields_down s down (inner_set g);
+})
 
 abbrev pub GroupConflicts : Scope → ℕ → Group → Type 0
 GroupConflicts s down g = Some_of (Differ g.first) g.others ⊎ FieldsConflict s down (inner_set g)

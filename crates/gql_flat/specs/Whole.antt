@@ -11,8 +11,6 @@ use Rattle.request_model.specs.declared.flat.Word.{Word}
 use Rattle.request_model.specs.Selection.{Scope, Operation, collected, fields_seen, is_large, most_levels, FieldsConflict, HasFault, fault_order, IsFirst, served, flat_of}
 use Rattle.gql_flat.specs.declared.flattening.Whole.{Whole}
 
-
-
 -- the conditions and the fields of a selection set, which is not too large
 pub record IsWhole (s : Scope) (set : List Selection) (w : Whole) : Type 0 where
   pub conditions : w.conditions ≡ (collected s set).conditions

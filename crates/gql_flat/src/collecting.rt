@@ -169,11 +169,7 @@ fn response_key<'a>(alias: &'a Option<Str>, name: &'a Str) -> &'a Str
     }
 }
 
-fn put_field<'a>(
-    alloc: Global,
-    field: Selected<'a>,
-    found: &mut Object<'a>,
-) -> Result<(), NoMemory>
+fn put_field<'a>(alloc: Global, field: Selected<'a>, found: &mut Object<'a>) -> Result<(), NoMemory>
     ensures { OnOk result (found.new ≡ spec.with_field field.entry found.old) }
 {
     add_field(alloc, &mut found.groups, field)
@@ -250,7 +246,14 @@ fn collect_one<'a>(
             collect_field(alloc, scope, directives.as_slice(), field, found)
         }
         Selection::Spread { name, directives } => {
-            collect_spread(alloc, scope, depth, directives.as_slice(), name.as_str(), found)
+            collect_spread(
+                alloc,
+                scope,
+                depth,
+                directives.as_slice(),
+                name.as_str(),
+                found,
+            )
         }
         Selection::Inline {
             on,

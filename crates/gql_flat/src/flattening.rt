@@ -79,10 +79,7 @@ fn operation_names<'a>(
     Ok(names)
 }
 
-fn fragment_names<'a>(
-    alloc: Global,
-    fragments: &[Fragment<'a>],
-) -> Result<Vec<&'a Str>, NoMemory>
+fn fragment_names<'a>(alloc: Global, fragments: &[Fragment<'a>]) -> Result<Vec<&'a Str>, NoMemory>
     ensures { IfOk result (λ names. map (λ n. n.now) names.items ≡ map (λ (f : spec.Fragment). f.name) fragments.now) }
 {
     let mut names = Vec::new(alloc);
@@ -258,5 +255,11 @@ pub fn flatten(alloc: Global, document: &Document, request: &Request) -> Result<
         Ok(operation) => operation,
         Err(fault) => return Err(fault),
     };
-    flatten_operation(alloc, document, operations.as_slice(), operation, &request.variables)
+    flatten_operation(
+        alloc,
+        document,
+        operations.as_slice(),
+        operation,
+        &request.variables,
+    )
 }

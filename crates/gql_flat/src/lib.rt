@@ -13,6 +13,8 @@ mod refusals;
 mod same;
 mod scope;
 mod spreads;
+#[cfg(test)]
+mod tests;
 mod values_text;
 mod walks;
 

@@ -23,11 +23,7 @@ pub struct Reach {
     pub marks: Vec<bool>,
 }
 
-fn reach_of(
-    alloc: Global,
-    scope: &Scope<'_>,
-    operation: &Operation<'_>,
-) -> Result<Reach, NoMemory>
+fn reach_of(alloc: Global, scope: &Scope<'_>, operation: &Operation<'_>) -> Result<Reach, NoMemory>
     ensures edges { IfOk result (λ reach. reach.edges.items ≡ edges_of (scope_of scope.now).fragments) }
     ensures len { IfOk result (λ reach. length reach.marks.items ≡ length (scope_of scope.now).fragments) }
     ensures marks { IfOk result (λ reach. AreReached (scope_of scope.now).fragments operation.now.select reach.marks.items) }

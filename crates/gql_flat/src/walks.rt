@@ -59,7 +59,11 @@ fn places_of(
 {
     let mut places = List::new(alloc);
     for name in names {
-        add_known(&mut places, place_of(fragments, name.as_str()), fragments.len())?;
+        add_known(
+            &mut places,
+            place_of(fragments, name.as_str()),
+            fragments.len(),
+        )?;
     }
     Ok(places)
 }

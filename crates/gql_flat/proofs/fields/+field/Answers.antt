@@ -11,7 +11,7 @@ field-returns-in-Err-fields t c =
     let inside = c.groups_of.ensures ∙ ap (λ (o : Collected). o.groups) c.in-Ok-collected_inside.ensures in
     fails_weaker c.in-Err-fields.fault _ _
     (λ h. large_inside s c.args.levels (c.args.levels + 1) c.args.group.now c.args.tally.now c.count.new.tally (omega arith) c.in-Ok.ensures
-        (subst (λ gs. AreTooLarge s c.args.levels gs c.count.new.tally.fields) inside h))
+    (subst (λ gs. AreTooLarge s c.args.levels gs c.count.new.tally.fields) inside h))
     c.in-Err-fields.ensures
 
 pub field-returns-in-Ok-field_of : goal.field-returns-in-Ok-field_of
@@ -25,8 +25,11 @@ field-returns-in-Ok-field_of t c =
 pub fields-returns-then-levels-eq0 : goal.fields-returns-then-levels-eq0
 fields-returns-then-levels-eq0 t c =
     let s = scope_of c.args.scope.now in
-    inr (refl, subst (λ n. AreTooLarge s n c.args.groups.now c.args.tally.now.fields) (sym c.if-levels-eq0.true)
-        (no_level s c.args.groups.now c.args.tally.now.fields (not_nil c.args.groups.now c.is_empty.result c.is_empty.ensures c.if-is_empty.false)))
+    inr (
+      refl,
+      subst (λ n. AreTooLarge s n c.args.groups.now c.args.tally.now.fields) (sym c.if-levels-eq0.true)
+          (no_level s c.args.groups.now c.args.tally.now.fields (not_nil c.args.groups.now c.is_empty.result c.is_empty.ensures c.if-is_empty.false)),
+    )
 
 pub fields-returns-in-Err : goal.fields-returns-in-Err
 fields-returns-in-Err t c =
@@ -34,7 +37,7 @@ fields-returns-in-Err t c =
     let up : c.args.levels - 1 + 1 ≡ c.args.levels = omega (arith, c.if-levels-eq0.false) in
     fails_weaker c.in-Err.fault _ _
     (λ h. large s c.args.levels c.args.groups.now c.loop-group.group-index c.group-item.result c.args.tally.now c.loop-group.tally c.loop-group.found c.loop-group-test.true c.group-item.is c.loop-group.invariant
-        (subst (λ n. AreTooLarge s n (c.group-item.result ∷ []) c.loop-group.tally.fields) up h))
+    (subst (λ n. AreTooLarge s n (c.group-item.result ∷ []) c.loop-group.tally.fields) up h))
     c.in-Err.ensures
 
 pub fields-loop-group-preserved : goal.fields-loop-group-preserved

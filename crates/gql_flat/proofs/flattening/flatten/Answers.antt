@@ -12,5 +12,5 @@ returns-in-Err c =
 pub returns : goal.returns
 returns c =
     λ memory. flattens c.args.document.now c.args.request.now.operation (members_of (view c.args.request.now.variables)) c.in-Ok-chosen.operation.now c.flatten_operation.result
-        (chosen_is c.args.request.now.operation _ (operations c.args.document.now) c.as_slice.result.now _ c.as_ref.ensures.value (c.as_slice.ensures.value ∙ c.in-Ok.ensures) c.in-Ok-chosen.ensures)
-        c.flatten_operation.ensures memory
+    (chosen_is c.args.request.now.operation _ (operations c.args.document.now) c.as_slice.result.now _ c.as_ref.ensures.value (c.as_slice.ensures.value ∙ c.in-Ok.ensures) c.in-Ok-chosen.ensures)
+    c.flatten_operation.ensures memory

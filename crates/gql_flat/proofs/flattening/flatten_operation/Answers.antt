@@ -10,7 +10,7 @@ use Rattle.gql_flat.proofs.flattening.flatten_operation.Goals as goal
 pub returns-in-Some-refusal : goal.returns-in-Some-refusal
 returns-in-Some-refusal c =
     inr (refused_first c.args.document.now (members_of (view c.args.variables.now)) c.args.operation.now (scope_of c.in-Ok.scope) c.in-Ok.ensures c.in-Some.kind (sym c.in-Some.ensures) c.in-Some-refusal.fault
-        (at_some _ _ _ c.in-Some-refusal.fault c.in-Some-refusal.is c.in-Ok-first_refusal.ensures))
+    (at_some _ _ _ c.in-Some-refusal.fault c.in-Some-refusal.is c.in-Ok-first_refusal.ensures))
 
 pub returns-in-Err-collect_whole : goal.returns-in-Err-collect_whole
 returns-in-Err-collect_whole c =
@@ -26,7 +26,7 @@ returns-then-whole c =
     let o = c.args.operation.now in
     let s = scope_of c.in-Ok.scope in
     inr (conflict_first d values o s c.in-Ok.ensures c.in-Some.kind (sym c.in-Some.ensures) out c.in-Ok-collect_whole.ensures.small
-        (field_conflict d values o s c.in-Ok.ensures c.in-Some.kind (sym c.in-Some.ensures) out c.in-Ok-collect_whole.ensures.small (c.in-Ok-collect_whole.ensures.conflict.0 c.if-whole.true)))
+    (field_conflict d values o s c.in-Ok.ensures c.in-Some.kind (sym c.in-Some.ensures) out c.in-Ok-collect_whole.ensures.small (c.in-Ok-collect_whole.ensures.conflict.0 c.if-whole.true)))
 
 pub returns-then-shared : goal.returns-then-shared
 returns-then-shared c =
@@ -36,7 +36,7 @@ returns-then-shared c =
     let o = c.args.operation.now in
     let s = scope_of c.in-Ok.scope in
     inr (conflict_first d values o s c.in-Ok.ensures c.in-Some.kind (sym c.in-Some.ensures) out c.in-Ok-collect_whole.ensures.small
-        (inl (shares_is d values o s c.args.operations.now c.in-Ok-shares_name.shared c.in-Ok.ensures c.requires c.in-Ok-shares_name.ensures ∙ c.if-shared.true)))
+    (inl (shares_is d values o s c.args.operations.now c.in-Ok-shares_name.shared c.in-Ok.ensures c.requires c.in-Ok-shares_name.ensures ∙ c.if-shared.true)))
 
 pub returns-in-Ok-flat_of : goal.returns-in-Ok-flat_of
 returns-in-Ok-flat_of c =

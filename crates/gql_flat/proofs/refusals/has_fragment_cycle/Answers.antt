@@ -11,5 +11,5 @@ pub returns : goal.returns
 returns c =
     IfOk-weaker c.has_cycle.result _ _
     (λ found h. cycle_is (scope_of c.args.scope.now).fragments c.args.operation.now.select c.args.reach.now.marks.items c.as_slice-2.result.now c.as_slice.result.now found c.requires.marks
-        (c.as_slice.ensures.value ∙ c.requires.edges) c.as_slice-2.ensures.value h)
+    (c.as_slice.ensures.value ∙ c.requires.edges) c.as_slice-2.ensures.value h)
     c.has_cycle.ensures
