@@ -1,6 +1,5 @@
 -- What is marked is what is reached.
-use Rattle.std.proofs.Common.{◌≡◌, ◌∙◌, ◌⊎◌, inl, inr, ◌<◌, ◌+◌, ◌*◌, ◌≤◌, length-append, ◌||◌, ◌&&◌, ◌↔◌, nat_eq, nat_lt, not, sym, ap, refl, subst, arith, ℕ, zero, suc, Bool, true, false, List, [], ◌∷◌, ◌++◌, length, get_or, set, IsTrue}
-use Rattle.std.specs.List.{list_any, list_all}
+use Rattle.std.proofs.Common.{◌≡◌, ◌∙◌, ◌⊎◌, inl, inr, ◌<◌, ◌+◌, ◌*◌, ◌≤◌, length-append, ◌||◌, ◌&&◌, ◌↔◌, nat_eq, not, sym, ap, refl, subst, arith, ℕ, zero, suc, Bool, true, false, List, [], ◌∷◌, ◌++◌, length, get_or, set, IsTrue}
 use Rattle.std.proofs.lemmas.List.Folds.{list_any-append}
 use Rattle.gql_flat.specs.Graph.{is_in, is_marked, targets_at, AreBelow, AllBelow, unmarked, Reaches, starts, goes}
 use Rattle.gql_flat.proofs.TruthRules.{or_true, or_left, or_right, or_false, both_true, same_number, itself}

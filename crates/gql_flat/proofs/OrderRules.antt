@@ -1,5 +1,5 @@
 -- Where an element goes among those in order.
-use Rattle.std.proofs.Common.{◌≡◌, ◌∙◌, ◌<◌, ◌≤◌, ◌+◌, ◌-◌, sym, ap, arith, refl, true, false, ℕ, suc, List, [], ◌∷◌, ◌++◌, length, map, take, drop, get_or, append_assoc}
+use Rattle.std.proofs.Common.{◌≡◌, ◌∙◌, ◌<◌, ◌+◌, sym, ap, arith, refl, true, false, ℕ, suc, List, [], ◌∷◌, ◌++◌, length, map, take, drop, get_or, append_assoc}
 use Rattle.std.proofs.Math.Seq.{drop-cons, take-suc}
 use Rattle.std.specs.List.{take-map}
 use Rattle.std.proofs.lemmas.List.{drop-map, get_or-map, map-append, length-map}
@@ -53,3 +53,17 @@ at_mapped f ps i p lt e = ap f e ∙ sym (get_or-map f ps i p (f p) lt)
 
 pub below_mapped : {Y X : Type 0} (f : Y → X) (ps : List Y) (i : ℕ) → i < length ps → i < length (map f ps)
 below_mapped f ps i lt = omega (arith, length-map ps f)
+
+-- ---- lists that are the same
+
+pub same_more : {Y X : Type 0} (f : Y → X) (a b : List Y) (i : ℕ) (x y : Y) → i < length a → length a ≡ length b → x ≡ get_or a i x → y ≡ get_or b i y → f x ≡ f y →
+    take i (map f a) ≡ take i (map f b) → take (i + 1) (map f a) ≡ take (i + 1) (map f b)
+same_more f a b i x y lt len ex ey e front =
+    let below : i < length b = omega (arith, len) in
+    up_to_place (map f a) i (i + 1) (f x) (below_mapped f a i lt) refl (at_mapped f a i x lt ex) ∙ ap (λ r. r ++ f x ∷ []) front ∙ ap (λ z. take i (map f b) ++ z ∷ []) e
+    ∙ sym (up_to_place (map f b) i (i + 1) (f y) (below_mapped f b i below) refl (at_mapped f b i y below ey))
+
+pub same_there : {Y X : Type 0} (f : Y → X) (a b : List Y) (i : ℕ) (x y : Y) → i < length a → length a ≡ length b → x ≡ get_or a i x → y ≡ get_or b i y → map f a ≡ map f b → f x ≡ f y
+same_there f a b i x y lt len ex ey e =
+    let below : i < length b = omega (arith, len) in
+    at_mapped f a i x lt ex ∙ ap (λ zs. get_or zs i (f x)) e ∙ get_or-map f b i y (f x) below ∙ ap f (sym ey)

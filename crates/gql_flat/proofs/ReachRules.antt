@@ -1,17 +1,19 @@
 -- The fragments that are reached are those at the places that are reached.
-use Rattle.std.proofs.Common.{◌≡◌, ◌∙◌, ◌⊎◌, inl, inr, ◌<◌, ◌||◌, ◌&&◌, ◌↔◌, nat_eq, nat_lt, sym, ap, refl, subst, arith, ℕ, zero, suc, Bool, true, false, if◌then◌else◌, List, [], ◌∷◌, length, map, get_or, Option, Some, None, IsTrue}
+use Rattle.std.proofs.Common.{◌≡◌, ◌∙◌, ◌⊎◌, inl, inr, ◌<◌, ◌||◌, ◌&&◌, ◌↔◌, nat_eq, nat_lt, sym, ap, refl, subst, ℕ, zero, suc, Bool, true, false, if◌then◌else◌, List, [], ◌∷◌, length, map, Option, Some, None, IsTrue}
 use Rattle.std.specs.Prelude.{filter, unwrap_or}
-use Rattle.std.specs.List.{list_any, list_all, position_or_len, slice_get, find}
+use Rattle.std.specs.List.{list_any, list_all, slice_get, find}
 use Rattle.std.specs.Option.{option_map}
 use Rattle.std.specs.Str.{bytes_eq}
 use Rattle.std.proofs.lemmas.List.Folds.{find_at}
-use Rattle.std.proofs.lemmas.Option.{slice_get-map, slice_get_within, slice_get-get_or, get_or_from_slice_get, unwrap_or-slice_get}
+use Rattle.std.proofs.lemmas.Option.{slice_get-map, slice_get_within, get_or_from_slice_get, unwrap_or-slice_get}
 use Rattle.request_model.specs.declared.document.Selection.{Selection}
 use Rattle.request_model.specs.Strings.{Text}
-use Rattle.request_model.specs.Selection.{Fragment, fragment_named, spreads, has_spread, IsReached, spread_there, spread_further}
+use Rattle.std.proofs.lemmas.List.{length-map}
+use Rattle.request_model.specs.declared.document.Directive.{Directive}
+use Rattle.request_model.specs.Selection.{Fragment, Operation, InReach, fragment_named, spreads, has_spread, IsReached, spread_there, spread_further}
 use Rattle.gql_flat.specs.Graph.{is_in, is_marked, targets_at, AreBelow, AllBelow, Reaches, starts, goes, HasCycle}
 use Rattle.gql_flat.proofs.TruthRules.{or_true, or_left, or_right, both_true, and_true, same_number, itself, below, is_below, same_text, own_text}
-use Rattle.gql_flat.specs.Walks.{place_of, targets_of, edges_of, some_marked_fails}
+use Rattle.gql_flat.specs.Walks.{place_of, targets_of, edges_of, some_marked_fails, AreReached}
 
 -- ---- places of names
 
@@ -175,15 +177,12 @@ of_failing test (b ∷ ms) [] k f m e t = cc
 of_failing test (b ∷ ms) (g ∷ fs) zero f m e t = let same : g ≡ f = cc in or_left _ _ (and_true b (test g) m (subst (λ z. test z ≡ true) (sym same) t))
 of_failing test (b ∷ ms) (g ∷ fs) (suc k) f m e t = or_right (b && test g) _ (of_failing test ms fs k f m e t)
 
--- the marks are those of the fragments that the selections reach
-abbrev pub AreReached : List Fragment → List Selection → List Bool → Type 0
-AreReached fs set marks = (k : ℕ) → IsTrue (is_marked marks k) ↔ Reaches (edges_of fs) (targets_of fs set) k
-
 module _ (fs : List Fragment) (set : List Selection) (marks : List Bool) (are : AreReached fs set marks) where
   pub reached_fails : (test : Fragment → Bool) → IsTrue (some_marked_fails test marks fs) ↔ ((f : Fragment) × IsReached fs set f × IsTrue (test f))
   reached_fails test = (
     λ h. let x = fails_at test marks fs h in (x.fragment, from_place fs set ((are x.at).0 x.marked) x.fragment x.here, x.fails),
-    λ r. let p = placed fs set r.0 r.1 in of_failing test marks fs p.place r.0 ((are p.place).1 p.reached) p.here r.2)
+    λ r. let p = placed fs set r.0 r.1 in of_failing test marks fs p.place r.0 ((are p.place).1 p.reached) p.here r.2,
+  )
 
   to_cycle : (k : ℕ) (o : Option Fragment) → slice_get fs k ≡ o → Reaches (edges_of fs) (targets_of fs set) k → Reaches (edges_of fs) (targets_at (edges_of fs) k) k → (f : Fragment) × IsReached fs set f × IsReached fs f.select f
   to_cycle k (Some f) here r c = (f, from_place fs set r f here, from_place fs f.select (subst (λ ts. Reaches (edges_of fs) ts k) (targets_of_place fs k f here) c) f here)
@@ -212,3 +211,38 @@ module _ (fs : List Fragment) (set : List Selection) (marks : List Bool) (are : 
 
   pub cycles : HasCycle (edges_of fs) marks ↔ ((f : Fragment) × IsReached fs set f × IsReached fs f.select f)
   cycles = (λ h. to_cycle h.at (slice_get fs h.at) refl ((are h.at).0 h.marked) h.cycle, λ r. of_cycle r.0 r.1 r.2)
+
+-- ---- answers of the walks
+
+pub edges_all_below : (fs : List Fragment) (edges : List (List ℕ)) → edges ≡ edges_of fs → AllBelow (length edges) edges
+edges_all_below fs edges e =
+    subst (λ es. AllBelow (length es) es) (sym e) (subst (λ n. AllBelow n (edges_of fs)) (sym (length-map fs (λ (g : Fragment). targets_of fs g.select))) (edges_below fs))
+
+pub start_below : (fs : List Fragment) (set : List Selection) (edges : List (List ℕ)) (start : List ℕ) → edges ≡ edges_of fs → start ≡ targets_of fs set → AreBelow (length edges) start
+start_below fs set edges start e s =
+    let len : length fs ≡ length edges = sym (ap length e ∙ length-map fs (λ (g : Fragment). targets_of fs g.select)) in
+    subst (λ n. AreBelow n start) len (subst (λ ts. AreBelow (length fs) ts) (sym s) (targets_below fs set))
+
+pub cycle_is : (fs : List Fragment) (set : List Selection) (marks ms : List Bool) (edges : List (List ℕ)) (b : Bool) → AreReached fs set marks → edges ≡ edges_of fs → ms ≡ marks → IsTrue b ↔ HasCycle edges ms →
+    IsTrue b ↔ ((f : Fragment) × IsReached fs set f × IsReached fs f.select f)
+cycle_is fs set marks ms edges b are e m h =
+    let there : HasCycle edges ms ↔ HasCycle (edges_of fs) marks = (λ x. subst (λ l. HasCycle (edges_of fs) l) m (subst (λ es. HasCycle es ms) e x), λ x. subst (λ es. HasCycle es ms) (sym e) (subst (λ l. HasCycle (edges_of fs) l) (sym m) x)) in
+    let c = cycles fs set marks are in
+    (λ t. c.0 (there.0 (h.0 t)), λ f. h.1 (there.1 (c.1 f)))
+
+in_reach_by : (fs : List Fragment) (marks : List Bool) (o : Operation) (test : List Directive → List Selection → Bool) → AreReached fs o.select marks →
+    (test o.directives o.select ≡ true) ⊎ (some_marked_fails (λ (f : Fragment). test f.directives f.select) marks fs ≡ true) → InReach fs o test
+in_reach_by fs marks o test are (inl h) = inl h
+in_reach_by fs marks o test are (inr h) = inr ((reached_fails fs o.select marks are (λ (f : Fragment). test f.directives f.select)).0 h)
+
+of_in_reach : (fs : List Fragment) (marks : List Bool) (o : Operation) (test : List Directive → List Selection → Bool) → AreReached fs o.select marks →
+    InReach fs o test → (test o.directives o.select || some_marked_fails (λ (f : Fragment). test f.directives f.select) marks fs) ≡ true
+of_in_reach fs marks o test are (inl h) = or_left _ _ h
+of_in_reach fs marks o test are (inr r) = or_right (test o.directives o.select) _ ((reached_fails fs o.select marks are (λ (f : Fragment). test f.directives f.select)).1 r)
+
+pub in_reach_is : (fs : List Fragment) (marks : List Bool) (o : Operation) (test : List Directive → List Selection → Bool) (b : Bool) → AreReached fs o.select marks →
+    b ≡ (test o.directives o.select || some_marked_fails (λ (f : Fragment). test f.directives f.select) marks fs) → IsTrue b ↔ InReach fs o test
+in_reach_is fs marks o test b are e = (λ h. in_reach_by fs marks o test are (or_true _ _ (sym e ∙ h)), λ r. e ∙ of_in_reach fs marks o test are r)
+
+pub not_so : (b : Bool) (P : Type 0) → IsTrue b ↔ P → b ≡ false → P → ⊥
+not_so b P h e p = let no : true ≡ false = sym (h.1 p) ∙ e in cc

@@ -1,5 +1,5 @@
 -- Numbers that are reached along edges.
-use Rattle.std.specs.Prelude.{ℕ, ◌+◌, List, [], ◌∷◌, Bool, true, false, not, nat_eq, nat_lt, slice_index_or, IsTrue, length}
+use Rattle.std.specs.Prelude.{ℕ, ◌+◌, List, [], ◌∷◌, Bool, true, false, nat_eq, nat_lt, slice_index_or, IsTrue}
 use Rattle.std.specs.List.{list_any, list_all}
 
 abbrev pub is_in : ℕ → List ℕ → Bool

@@ -1,11 +1,12 @@
 -- The fragments of a document as numbers, and what is looked for in those that are reached.
-use Rattle.std.specs.Prelude.{ℕ, List, [], ◌∷◌, Bool, true, false, not, ◌&&◌, ◌||◌, nat_lt, length, map, filter, is_none}
+use Rattle.std.specs.Prelude.{◌↔◌, IsTrue, ℕ, List, [], ◌∷◌, Bool, false, not, ◌&&◌, ◌||◌, nat_lt, length, map, filter, is_none}
 use Rattle.std.specs.List.{list_any, position_or_len}
 use Rattle.std.specs.Str.{bytes_eq}
 use Rattle.request_model.specs.declared.document.Directive.{Directive}
 use Rattle.request_model.specs.declared.document.Selection.{Selection}
 use Rattle.request_model.specs.Strings.{Text}
-use Rattle.request_model.specs.Selection.{Fragment, Operation, Scope, fragment_named, spreads, directives_in, has_any, is_served, condition}
+use Rattle.request_model.specs.Selection.{Fragment, Scope, fragment_named, spreads, directives_in, has_any, is_served, condition}
+use Rattle.gql_flat.specs.Graph.{is_marked, Reaches}
 use Rattle.gql_flat.specs.declared.walks.Check.{Check}
 use Rattle.gql_flat.specs.declared.walks.Check.TheVariants as check
 
@@ -30,3 +31,7 @@ abbrev pub some_marked_fails : (Fragment → Bool) → List Bool → List Fragme
 some_marked_fails test [] fs = false
 some_marked_fails test (m ∷ ms) [] = false
 some_marked_fails test (m ∷ ms) (f ∷ fs) = m && test f || some_marked_fails test ms fs
+
+-- the marks are those of the fragments that the selections reach
+abbrev pub AreReached : List Fragment → List Selection → List Bool → Type 0
+AreReached fs set marks = (k : ℕ) → IsTrue (is_marked marks k) ↔ Reaches (edges_of fs) (targets_of fs set) k

@@ -90,10 +90,7 @@ fn copy_type(alloc: Global, kind: &TypeRef) -> Result<TypeRef, NoMemory>
     }
 }
 
-fn copy_directives(
-    alloc: Global,
-    directives: &DirectiveList,
-) -> Result<DirectiveList, NoMemory>
+fn copy_directives(alloc: Global, directives: &DirectiveList) -> Result<DirectiveList, NoMemory>
     ensures { IfOk result (λ copy. copy ≡ directives.now) }
 {
     let mut copy = List::new(alloc);

@@ -7,11 +7,7 @@ use scalar_val::{List, NoMemory};
 use std::alloc::Global;
 
 /// Marks a target, which waits then if it was not marked before.
-fn mark(
-    marks: &mut Vec<bool>,
-    waiting: &mut Vec<usize>,
-    target: usize,
-) -> Result<(), NoMemory>
+fn mark(marks: &mut Vec<bool>, waiting: &mut Vec<usize>, target: usize) -> Result<(), NoMemory>
     requires { target < length marks.old.items }
     ensures len { length marks.new.items ≡ length marks.old.items }
     ensures marked { OnOk result ((k : ℕ) → is_marked marks.new.items k ≡ (is_marked marks.old.items k || (k == target))) }
@@ -67,11 +63,7 @@ fn targets_at(edges: &[List<usize>], at: usize) -> &[usize]
 }
 
 /// Marks what is reached from the start: the start itself, and what an edge from something reached leads to.
-pub fn reached(
-    alloc: Global,
-    edges: &[List<usize>],
-    start: &[usize],
-) -> Result<Vec<bool>, NoMemory>
+pub fn reached(alloc: Global, edges: &[List<usize>], start: &[usize]) -> Result<Vec<bool>, NoMemory>
     requires start { AreBelow (length edges.now) start.now }
     requires edges { AllBelow (length edges.now) edges.now }
     ensures len { IfOk result (λ marks. length marks.items ≡ length edges.now) }
@@ -87,11 +79,7 @@ pub fn reached(
 }
 
 /// Whether some marked one reaches itself.
-pub fn has_cycle(
-    alloc: Global,
-    edges: &[List<usize>],
-    marks: &[bool],
-) -> Result<bool, NoMemory>
+pub fn has_cycle(alloc: Global, edges: &[List<usize>], marks: &[bool]) -> Result<bool, NoMemory>
     requires len { length marks.now ≡ length edges.now }
     requires edges { AllBelow (length edges.now) edges.now }
     ensures { IfOk result (λ found. IsTrue found ↔ HasCycle edges.now marks.now) }

@@ -2,14 +2,22 @@
 #![tactic(auto)]
 
 mod canonical;
+mod collecting;
 mod copies;
+mod fields;
+mod flattening;
 mod graph;
 mod operation;
 mod ordered;
+mod refusals;
+mod same;
 mod scope;
 mod spreads;
+#[cfg(test)]
+mod tests;
 mod values_text;
 mod walks;
 
 pub use canonical::canon;
+pub use flattening::flatten;
 pub use request_model::{Flat, FlatFault, FlatField, FlatFieldList, StrList, Word};

@@ -31,7 +31,6 @@ pub struct Operation<'a> {
 impl<'a> Model for Operation<'a> {
     ghost use Rattle.std.specs.Option.{option_copied};
     ghost use Rattle.request_model.specs.Selection as spec;
-
     ghost use Rattle.std.specs.Coded.{codes};
     ghost use Rattle.request_model.specs.contracts.document.GValue as gvalue;
     ghost use Rattle.request_model.specs.contracts.document.GPair as gpair;
@@ -56,7 +55,6 @@ pub struct Fragment<'a> {
 
 impl<'a> Model for Fragment<'a> {
     ghost use Rattle.request_model.specs.Selection as spec;
-
     ghost use Rattle.std.specs.Coded.{codes};
     ghost use Rattle.request_model.specs.contracts.document.GValue as gvalue;
     ghost use Rattle.request_model.specs.contracts.document.GPair as gpair;

@@ -24,8 +24,7 @@ fn is_before(a: &GPair, b: &GPair) -> bool
 /// The place of the pair before the first one that it isn't above.
 fn place(pairs: &[&GPair], pair: &GPair) -> usize
     ensures within { result ≤ length pairs.now }
-    ensures placed {
-        let names = map (λ p. p.now) pairs.now in
+    ensures placed { let names = map (λ p. p.now) pairs.now in
         take result names ++ pair.now ∷ drop result names ≡ placed compare_names pair.now names }
 {
     for (index, other) in pairs.iter().enumerate() {

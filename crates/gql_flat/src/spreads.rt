@@ -21,10 +21,7 @@ pub fn put_spreads<'a>(set: &'a [Selection], names: &mut Vec<&'a Str>) -> Result
 
 #[cycle(spread)]
 #[tactic(auto, using(crate::proofs::PartRules::spreads_of_field, crate::proofs::PartRules::spreads_of_spread, crate::proofs::PartRules::spreads_of_inline))]
-fn put_spreads_of<'a>(
-    selection: &'a Selection,
-    names: &mut Vec<&'a Str>,
-) -> Result<(), NoMemory>
+fn put_spreads_of<'a>(selection: &'a Selection, names: &mut Vec<&'a Str>) -> Result<(), NoMemory>
     ensures { OnOk result (map (λ n. n.now) names.new.items ≡ map (λ n. n.now) names.old.items ++ spreads_of selection.now) }
 {
     match selection {
@@ -61,11 +58,15 @@ fn put_directives_of<'a>(
 {
     match selection {
         Selection::Field {
-            directives, select, ..
+            directives,
+            select,
+            ..
         } => put_both(directives.as_slice(), select.as_slice(), found),
         Selection::Spread { directives, .. } => put_all(directives.as_slice(), found),
         Selection::Inline {
-            directives, select, ..
+            directives,
+            select,
+            ..
         } => put_both(directives.as_slice(), select.as_slice(), found),
     }
 }
@@ -82,10 +83,7 @@ fn put_both<'a>(
     put_directives(set, found)
 }
 
-fn put_all<'a>(
-    directives: &'a [Directive],
-    found: &mut Vec<&'a Directive>,
-) -> Result<(), NoMemory>
+fn put_all<'a>(directives: &'a [Directive], found: &mut Vec<&'a Directive>) -> Result<(), NoMemory>
     ensures { OnOk result (map (λ n. n.now) found.new.items ≡ map (λ n. n.now) found.old.items ++ directives.now) }
 {
     for directive in directives {

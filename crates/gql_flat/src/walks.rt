@@ -7,7 +7,6 @@ ghost use Rattle.gql_flat.specs.Scopes.{scope_of};
 ghost use Rattle.gql_flat.specs.Walks.{place_of, targets_of, edges_of, fails, some_marked_fails};
 
 use crate::copies::add;
-use crate::graph::{has_cycle, reached};
 use crate::operation::{Fragment, Operation, same};
 use crate::scope::{Scope, is_include, is_skip};
 use crate::spreads::{put_directives, put_spreads};
@@ -39,7 +38,7 @@ fn place_of(fragments: &[Fragment<'_>], name: &str) -> usize
 }
 
 /// The places of the fragments that are spread.
-fn targets_of(
+pub fn targets_of(
     alloc: Global,
     fragments: &[Fragment<'_>],
     set: &[Selection],
@@ -60,7 +59,11 @@ fn places_of(
 {
     let mut places = List::new(alloc);
     for name in names {
-        add_known(&mut places, place_of(fragments, name.as_str()), fragments.len())?;
+        add_known(
+            &mut places,
+            place_of(fragments, name.as_str()),
+            fragments.len(),
+        )?;
     }
     Ok(places)
 }
@@ -74,7 +77,7 @@ fn add_known(places: &mut List<usize>, place: usize, count: usize) -> Result<(),
     add(places, place)
 }
 
-fn edges_of(alloc: Global, fragments: &[Fragment<'_>]) -> Result<Vec<List<usize>>, NoMemory>
+pub fn edges_of(alloc: Global, fragments: &[Fragment<'_>]) -> Result<Vec<List<usize>>, NoMemory>
     ensures { IfOk result (λ edges. edges.items ≡ edges_of fragments.now) }
 {
     let mut edges = Vec::new(alloc);
@@ -175,7 +178,7 @@ fn fragment_fails(
 }
 
 /// Whether the check refuses the operation or a marked fragment.
-fn reach_fails(
+pub fn reach_fails(
     alloc: Global,
     scope: &Scope<'_>,
     check: Check,
@@ -196,7 +199,7 @@ fn reach_fails(
     Ok(false)
 }
 
-fn vars_have_directives(vars: &[VarDef]) -> bool
+pub fn vars_have_directives(vars: &[VarDef]) -> bool
     ensures { result ≡ list_any (λ v. spec.has_any v.directives) vars.now }
 {
     for variable in vars {

@@ -7,4 +7,3 @@ abbrev pub invariant-put_fields-loop-field : goal.invariant-put_fields-loop-fiel
 invariant-put_fields-loop-field l =
     let rest = map field_text (drop l.field-index l.fields) in
     string_bytes l.out ++ (if l.first then parted 32 rest else flat_map (λ u. 32 ∷ u) rest) ≡ string_bytes l.fn.out ++ parted 32 (map field_text l.fields)
-

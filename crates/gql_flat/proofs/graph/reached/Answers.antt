@@ -1,4 +1,4 @@
-use Rattle.std.proofs.Common.{arith, ◌≡◌, ◌∙◌, ◌||◌, ◌&&◌, not, ap}
+use Rattle.std.proofs.Common.{arith, ◌∙◌, ◌||◌, ◌&&◌, not, ap}
 use Rattle.gql_flat.specs.Graph.{is_in, is_marked}
 use Rattle.gql_flat.proofs.GraphRules.{begun, gone_on, targets_within, done, none_left}
 use Rattle.gql_flat.proofs.graph.reached.Goals as goal

@@ -12,4 +12,3 @@ abbrev pub invariant-put_pairs-loop-pair : goal.invariant-put_pairs-loop-pair
 invariant-put_pairs-loop-pair l =
     let rest = map pair_text (drop l.pair-index l.pairs) in
     string_bytes l.out ++ (if l.first then parted 44 rest else flat_map (λ u. 44 ∷ u) rest) ≡ string_bytes l.fn.out ++ parted 44 (map pair_text l.pairs)
-

@@ -7,4 +7,3 @@ abbrev pub invariant-loop-value : goal.invariant-loop-value
 invariant-loop-value l =
     let rest = map cursor_object (drop l.value-index l.values) in
     string_bytes l.out ++ (if l.first then parted 44 rest else flat_map (λ u. 44 ∷ u) rest) ≡ string_bytes l.fn.out ++ parted 44 (map cursor_object l.values)
-

@@ -7,4 +7,3 @@ abbrev pub invariant-loop-pair : goal.invariant-loop-pair
 invariant-loop-pair l =
     let rest = map cursor_pair (drop l.pair-index l.pairs) in
     string_bytes l.out ++ (if l.first then parted 44 rest else flat_map (λ u. 44 ∷ u) rest) ≡ string_bytes l.fn.out ++ parted 44 (map cursor_pair l.pairs)
-

@@ -1,0 +1,212 @@
+use crate::canonical::canon;
+use crate::flattening::flatten;
+use gql_ast::parse;
+use gql_lex::tokens;
+use json_out::Request;
+use request_model::{Flat, FlatFault};
+use scalar_val::{NoMemory, Str};
+use serde_json::Value;
+use std::alloc::Global;
+use std::test::Fail;
+
+fn request_of(
+    alloc: Global,
+    query: &str,
+    operation: &str,
+    variables: &str,
+) -> Result<Request, Fail> {
+    let query = Str::of(alloc, query)?;
+    let operation = if operation.is_empty() {
+        None
+    } else {
+        Some(Str::of(alloc, operation)?)
+    };
+    let Ok(variables) = Value::from_str(alloc, variables) else {
+        return Err(Fail::from("the variables aren't JSON"));
+    };
+    Ok(Request {
+        query,
+        operation,
+        variables,
+    })
+}
+
+fn flat_of(alloc: Global, request: &Request) -> Result<Result<Flat, FlatFault>, Fail> {
+    let Ok(run) = tokens(alloc, request.query.as_str()) else {
+        return Err(Fail::from("no memory"));
+    };
+    let Ok(document) = parse(alloc, request.query.as_str(), &run) else {
+        return Err(Fail::from("no document"));
+    };
+    Ok(flatten(alloc, &document, request))
+}
+
+/// The canonical text, or the name of the fault.
+fn answer(alloc: Global, query: &str, operation: &str, variables: &str) -> Result<Str, Fail> {
+    let request = request_of(alloc, query, operation, variables)?;
+    match flat_of(alloc, &request)? {
+        Ok(flat) => Ok(canon(alloc, &flat)?),
+        Err(fault) => Ok(Str::of(alloc, name_of(fault))?),
+    }
+}
+
+fn name_of(fault: FlatFault) -> &'static str {
+    match fault {
+        FlatFault::NoOperation => "NoOperation",
+        FlatFault::AmbiguousOperation => "AmbiguousOperation",
+        FlatFault::NotServed => "NotServed",
+        FlatFault::UnknownFragment => "UnknownFragment",
+        FlatFault::FragmentCycle => "FragmentCycle",
+        FlatFault::NoDirective => "NoDirective",
+        FlatFault::NotBoolean => "NotBoolean",
+        FlatFault::TooLarge => "TooLarge",
+        FlatFault::Conflict => "Conflict",
+        FlatFault::NoMemory => "NoMemory",
+    }
+}
+
+/// The first case with another answer: the query, the wanted operation or "", the variables, and the answer.
+fn wrong_case(alloc: Global, cases: &[(&str, &str, &str, &str)]) -> Result<Option<usize>, Fail> {
+    for (index, (query, operation, variables, expected)) in cases.iter().enumerate() {
+        if answer(alloc, query, operation, variables)?.as_str() != *expected {
+            return Ok(Some(index));
+        }
+    }
+    Ok(None)
+}
+
+#[test]
+fn the_first_fault(rt: HostRuntime) -> Result<(), Fail> {
+    let cases = [
+        ("query A{a} query B{a}", "", "null", "AmbiguousOperation"),
+        ("query A{a} query B{a}", "C", "null", "NoOperation"),
+        ("fragment F on user {a}", "", "null", "NoOperation"),
+        ("mutation { a }", "", "null", "NotServed"),
+        (
+            "{ ...F ...G } fragment F on user { ...F }",
+            "",
+            "null",
+            "UnknownFragment",
+        ),
+        (
+            "{ ...F } fragment F on user { ...F }",
+            "",
+            "null",
+            "FragmentCycle",
+        ),
+        ("{ a @defer }", "", "null", "NoDirective"),
+        (
+            "query ($a: Int @skip(if: true)) { a }",
+            "",
+            "null",
+            "NoDirective",
+        ),
+        ("{ a @skip(if: 1) }", "", "null", "NotBoolean"),
+        (
+            "query ($a: Int = true) { a @skip(if: $a) }",
+            "",
+            "{\"a\":null}",
+            "NotBoolean",
+        ),
+        ("{ a: b a: c }", "", "null", "Conflict"),
+        (
+            "{ a(x: 1, y: 2) a(y: 2, x: 1) a(x: 2, y: 2) }",
+            "",
+            "null",
+            "Conflict",
+        ),
+        ("query A{a} query B{a} query B{a}", "A", "null", "Conflict"),
+        ("query ($a: Int, $a: Int) { a }", "", "null", "Conflict"),
+        (
+            "{ a } fragment F on T {a} fragment F on T {b}",
+            "",
+            "null",
+            "Conflict",
+        ),
+    ];
+    assert_eq!(rt; wrong_case(rt.alloc(), &cases)?, None);
+    Ok(())
+}
+
+#[test]
+fn canonical_texts(rt: HostRuntime) -> Result<(), Fail> {
+    let cases = [
+        ("{ u { a } u { b a } }", "", "null", "query u:u{a:a b:b}"),
+        (
+            "subscription($f: Int!) { user_stream(batch_size: 5, cursor: {initial_value: {id: $f}}) { id } }",
+            "",
+            "{\"f\":3}",
+            "subscription user_stream:user_stream(batch_size:5,cursor:{initial_value:{id:_}}){id:id}",
+        ),
+        (
+            "query A{a} query B{x: b(z: [true, E, null], y: {q: \"\\n\", p: -1}, x: $v)}",
+            "B",
+            "{}",
+            "query x:b(x:$v,y:{q:\"\\n\",p:-1},z:[true,E,null])",
+        ),
+        (
+            "query ($s: Boolean = true) { a { b @skip(if: $s) } c @include(if: $s) d @include(if: false) }",
+            "",
+            "{\"s\":true}",
+            "query a:a{} c:c",
+        ),
+        (
+            "{ u { ...F ...F ... on T { d } ...F @skip(if: true) } } fragment F on T { a b: a ...G } fragment G on T { c a }",
+            "",
+            "null",
+            "query u:u{a:a b:a c:c d:d}",
+        ),
+    ];
+    assert_eq!(rt; wrong_case(rt.alloc(), &cases)?, None);
+    Ok(())
+}
+
+/// A chain of so many fields, each within the one before.
+fn chain(alloc: Global, levels: u32) -> Result<String, Fail> {
+    let mut text = String::new(alloc);
+    for _ in 0..levels {
+        text.push_str("{a")?;
+    }
+    for _ in 0..levels {
+        text.push_str("}")?;
+    }
+    Ok(text)
+}
+
+/// So many fields side by side.
+fn row(alloc: Global, fields: u32) -> Result<String, Fail> {
+    let mut text = String::from_str(alloc, "{")?;
+    for number in 0..fields {
+        text.push_str("a")?;
+        text.push_str(number.to_string(alloc)?.as_str())?;
+        text.push_str(" ")?;
+    }
+    text.push_str("}")?;
+    Ok(text)
+}
+
+/// Whether the selection is too large.
+fn is_too_large(alloc: Global, query: &str) -> Result<bool, Fail> {
+    let request = request_of(alloc, query, "", "{}")?;
+    match flat_of(alloc, &request)? {
+        Ok(_) => Ok(false),
+        Err(fault) => Ok(fault == FlatFault::TooLarge),
+    }
+}
+
+#[test]
+fn twelve_levels_and_4096_fields(rt: HostRuntime) -> Result<(), Fail> {
+    assert!(rt; !is_too_large(rt.alloc(), chain(rt.alloc(), 12)?.as_str())?);
+    assert!(rt; is_too_large(rt.alloc(), chain(rt.alloc(), 13)?.as_str())?);
+    assert!(rt; !is_too_large(rt.alloc(), row(rt.alloc(), 4096)?.as_str())?);
+    assert!(rt; is_too_large(rt.alloc(), row(rt.alloc(), 4097)?.as_str())?);
+    Ok(())
+}
+
+#[test]
+fn fragments_that_fan_out(rt: HostRuntime) -> Result<(), Fail> {
+    let text =
+        "subscription { user { ...F1 } } fragment F1 on user { a: posts { ...F2 } b: posts { ...F2 } c: posts { ...F2 } } fragment F2 on posts { a: posts { ...F3 } b: posts { ...F3 } c: posts { ...F3 } } fragment F3 on posts { a: posts { ...F4 } b: posts { ...F4 } c: posts { ...F4 } } fragment F4 on posts { a: posts { ...F5 } b: posts { ...F5 } c: posts { ...F5 } } fragment F5 on posts { a: posts { ...F6 } b: posts { ...F6 } c: posts { ...F6 } } fragment F6 on posts { a: posts { ...F7 } b: posts { ...F7 } c: posts { ...F7 } } fragment F7 on posts { a: posts { ...F8 } b: posts { ...F8 } c: posts { ...F8 } } fragment F8 on posts { a: posts { ...F9 } b: posts { ...F9 } c: posts { ...F9 } } fragment F9 on posts { id }";
+    assert!(rt; is_too_large(rt.alloc(), text)?);
+    Ok(())
+}
