@@ -2,4 +2,4 @@ pub mod FaultRules
 pub mod FirstFault
 pub mod SelectionRules
 mod SelectionRows
-mod Worked
+pub mod Worked

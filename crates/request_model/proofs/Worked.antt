@@ -1,5 +1,5 @@
 -- Worked examples, computed from the definitions.
-use Rattle.std.proofs.Common.{◌≡◌, ◌≢◌, ℕ, ◌++◌, List, [], ◌∷◌, Some, None, true, false, refl, arith}
+use Rattle.std.proofs.Common.{◌≡◌, ◌≢◌, ◌⊎◌, inl, inr, subst, ℕ, ◌++◌, List, [], ◌∷◌, Some, None, true, false, refl, arith}
 use Rattle.std.specs.Prelude.{codes}
 use lib.Utf8.{encode}
 use Rattle.request_model.specs.declared.token.Token.{Token}
@@ -14,10 +14,10 @@ use Rattle.request_model.specs.declared.document.OpWord.TheVariants as word
 use Rattle.request_model.specs.declared.document.Definition.{Definition}
 use Rattle.request_model.specs.declared.document.Definition.TheVariants as d
 use Rattle.request_model.specs.declared.document.Document.{Document}
-use Rattle.request_model.specs.Strings.{unescaped}
+use Rattle.request_model.specs.Strings.{Text, unescaped}
 use Rattle.request_model.specs.Lexemes.{lexemes, front}
-use Rattle.request_model.specs.Grammar.{Lexeme, Spread, Name, Int, Quoted, dollar, paren, end_paren, colon, bracket, end_bracket, brace, end_brace, no_more, IsValue, variable, integer, string, null, list, no_values, more_values, a_pair, no_pairs, no_arguments, some_arguments, plain, IsSelection, IsSet, field, spread, no_selections, more_selections, a_set, no_set, IsDefinition, shorthand, IsDocument, a_document}
-use Rattle.request_model.specs.Place.{opens_65th, Begins, FaultAt, at_lexeme, at_bad}
+use Rattle.request_model.specs.Grammar.{Lexeme, Spread, Name, Int, Quoted, dollar, paren, end_paren, colon, bracket, end_bracket, brace, end_brace, no_more, IsValue, variable, integer, string, null, list, no_values, more_values, a_pair, no_pairs, no_arguments, some_arguments, plain, IsSelection, IsSet, field, spread, no_selections, more_selections, a_set, no_set, some_set, one_more, IsSelections, operation, subscription, no_name, no_variables, IsDefinition, shorthand, IsDocument, a_document}
+use Rattle.request_model.specs.Place.{opens_65th, Begins, FaultAt, at_lexeme, at_bad, at_end}
 
 abbrev token : TokenKind → ℕ → ℕ → Token
 token k i j = record { kind = k; start = i; end = j }
@@ -143,3 +143,68 @@ bad_number =
       (refl, (refl, (refl, (refl, (refl, tt))))),
       (Name (codes "null") ∷ end_paren ∷ end_brace ∷ [], _, a_document (shorthand (a_set (field plain (some_arguments (a_pair null) no_pairs) no_more no_set) no_selections)) no_more),
     )
+
+-- `subscription { user { id } ` is at fault at its end, where a bracket is missing
+abbrev id_set : List Lexeme
+id_set = brace ∷ Name (codes "id") ∷ end_brace ∷ []
+
+id_ends : (n : Text) (r mid : List Lexeme) (x : Selection) → IsSelection (Name n ∷ end_brace ∷ r) x mid → mid ≡ end_brace ∷ r
+id_ends n r mid x (field plain no_arguments no_more no_set) = refl
+id_ends n r mid x (field plain no_arguments no_more (some_set h)) = elim h [ ]
+id_ends n r mid x (field plain no_arguments (one_more h _) _) = elim h [ ]
+
+none_at_bracket : (r mid : List Lexeme) (x : Selection) → IsSelection (end_brace ∷ r) x mid → ⊥
+none_at_bracket r mid x (field a _ _ _) = elim a [ ]
+
+after_id : (r rest : List Lexeme) (xs : List Selection) → IsSelections (end_brace ∷ r) xs (end_brace ∷ rest) → rest ≡ r
+after_id r rest xs no_selections = refl
+after_id r rest xs (more_selections {x = x} a _) = absurd (none_at_bracket r _ x a)
+
+set_ends : (n : Text) (r rest : List Lexeme) (xs : List Selection) → IsSet (brace ∷ Name n ∷ end_brace ∷ r) xs rest → rest ≡ r
+set_ends n r rest xs (a_set {x = x} {xs = ys} a b) = after_id r rest ys (subst (λ m. IsSelections m ys (end_brace ∷ rest)) (id_ends n r _ x a) b)
+
+user_ends : (n : Text) (mid : List Lexeme) (x : Selection) → IsSelection (Name n ∷ id_set) x mid → (mid ≡ []) ⊎ (mid ≡ id_set)
+user_ends n mid x (field plain no_arguments no_more no_set) = inr refl
+user_ends n mid x (field {set = set} plain no_arguments no_more (some_set h)) = inl (set_ends _ [] mid set h)
+user_ends n mid x (field plain no_arguments (one_more h _) _) = elim h [ ]
+
+none_of_none : (mid : List Lexeme) (x : Selection) → IsSelection [] x mid → ⊥
+none_of_none mid x (field a _ _ _) = elim a [ ]
+
+none_at_set : (mid : List Lexeme) (x : Selection) → IsSelection id_set x mid → ⊥
+none_at_set mid x (field a _ _ _) = elim a [ ]
+
+never_closed : (rest : List Lexeme) (xs : List Selection) → IsSelections [] xs (end_brace ∷ rest) → ⊥
+never_closed rest xs (more_selections {x = x} a _) = none_of_none _ x a
+
+not_a_bracket : (rest : List Lexeme) (xs : List Selection) → IsSelections id_set xs (end_brace ∷ rest) → ⊥
+not_a_bracket rest xs (more_selections {x = x} a _) = none_at_set _ x a
+
+unclosed : (n : Text) (rest : List Lexeme) (xs : List Selection) → IsSet (brace ∷ Name n ∷ id_set) xs rest → ⊥
+unclosed n rest xs (a_set {x = x} {xs = ys} a b) = elim (user_ends n _ x a) [
+  | inl e ↦ never_closed rest ys (subst (λ m. IsSelections m ys (end_brace ∷ rest)) e b)
+  | inr e ↦ not_a_bracket rest ys (subst (λ m. IsSelections m ys (end_brace ∷ rest)) e b)
+]
+
+no_unclosed : (rest : List Lexeme) (x : Definition) → IsDefinition (Name (codes "subscription") ∷ brace ∷ Name (codes "user") ∷ id_set) x rest → ⊥
+no_unclosed rest x (shorthand h) = elim h [ ]
+no_unclosed rest x (operation {set = set} w no_name no_variables no_more h) = unclosed _ rest set h
+no_unclosed rest x (operation w no_name no_variables (one_more h _) _) = elim h [ ]
+
+no_unclosed_document : (x : Document) → IsDocument (Name (codes "subscription") ∷ brace ∷ Name (codes "user") ∷ id_set) x [] → ⊥
+no_unclosed_document x (a_document {x = y} a _) = no_unclosed _ y a
+
+unclosed_begins : Begins (Name (codes "subscription") ∷ brace ∷ Name (codes "user") ∷ id_set)
+unclosed_begins = (
+  (refl, (refl, (refl, (refl, (refl, (refl, tt)))))),
+  (
+    end_brace ∷ [],
+    _,
+    a_document (operation subscription no_name no_variables no_more
+        (a_set (field plain no_arguments no_more (some_set (a_set (field plain no_arguments no_more no_set) no_selections))) no_selections)) no_more,
+  ),
+)
+
+pub missing_bracket : FaultAt (codes "subscription { user { id } ") 27
+unfolding lexemes front
+missing_bracket = at_end (omega arith) refl unclosed_begins (λ d h. no_unclosed_document d h.0)

@@ -56,29 +56,29 @@ pair_text = fold-GPair Text Text value_step pair_step
 
 -- ---- the argument `cursor`: a cursor is an object or a list of one, and the value in its `initial_value` isn't told
 
+abbrev pub initial_text_by : Text → GValue-F GValue GPair → Text
+initial_text_by other (GValue-F.Object pairs) = in_braces (map (λ p. named_text (out-GPair p).name (codes "_")) pairs)
+initial_text_by other _ = other
+
 abbrev pub initial_text : GValue → Text
-initial_text x = initial_in (out-GValue x)
-  where
-    initial_in : GValue-F GValue GPair → Text
-    initial_in (GValue-F.Object pairs) = in_braces (map (λ p. named_text (out-GPair p).name (codes "_")) pairs)
-    initial_in _ = value_text x
+initial_text x = initial_text_by (value_text x) (out-GValue x)
 
 abbrev pub cursor_pair : GPair → Text
 cursor_pair p = if bytes_eq (out-GPair p).name (codes "initial_value") then named_text (out-GPair p).name (initial_text (out-GPair p).value) else pair_text p
 
+abbrev pub cursor_object_by : Text → GValue-F GValue GPair → Text
+cursor_object_by other (GValue-F.Object pairs) = in_braces (map cursor_pair pairs)
+cursor_object_by other _ = other
+
 abbrev pub cursor_object : GValue → Text
-cursor_object x = object_in (out-GValue x)
-  where
-    object_in : GValue-F GValue GPair → Text
-    object_in (GValue-F.Object pairs) = in_braces (map cursor_pair pairs)
-    object_in _ = value_text x
+cursor_object x = cursor_object_by (value_text x) (out-GValue x)
+
+abbrev pub cursor_text_by : Text → GValue-F GValue GPair → Text
+cursor_text_by other (GValue-F.Many items) = in_brackets (map cursor_object items)
+cursor_text_by other _ = other
 
 abbrev pub cursor_text : GValue → Text
-cursor_text x = cursor_in (out-GValue x)
-  where
-    cursor_in : GValue-F GValue GPair → Text
-    cursor_in (GValue-F.Many items) = in_brackets (map cursor_object items)
-    cursor_in _ = cursor_object x
+cursor_text x = cursor_text_by (cursor_object x) (out-GValue x)
 
 abbrev pub argument_text : GPair → Text
 argument_text p = if bytes_eq (out-GPair p).name (codes "cursor") then named_text (out-GPair p).name (cursor_text (out-GPair p).value) else pair_text p

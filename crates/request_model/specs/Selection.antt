@@ -1,13 +1,13 @@
 -- The fields that an operation selects: GraphQL October 2021, section 6.3.2 "Field Collection", with the merging of
 -- sections 5.3.2 and 6.4.3, and what refuses an operation before that. The codes, their order and the limits are this
 -- project's own.
-use Rattle.std.specs.Prelude.{◌≡◌, ◌≢◌, ◌⊎◌, ℕ, zero, suc, ◌+◌, max, Bool, true, false, not, ◌&&◌, ◌||◌, if◌then◌else◌, nat_lt, List, [], ◌∷◌, ◌++◌, length, map, find, flat_map, Option, Some, None, is_none, option_and_then, Result, Ok, Err, IsTrue, codes}
+use Rattle.std.specs.Prelude.{◌≡◌, ◌≢◌, ◌⊎◌, ℕ, zero, suc, ◌+◌, max, Bool, true, false, not, ◌&&◌, ◌||◌, if◌then◌else◌, nat_lt, List, [], ◌∷◌, ◌++◌, length, map, find, flat_map, Option, Some, None, is_none, option_and_then, unwrap_or, Result, Ok, Err, IsTrue, codes}
 use Rattle.std.specs.List.{list_any, filter_map, AllByRecursion}
 use Rattle.std.specs.Str.{bytes_eq}
 use Rattle.std.specs.Ordering.{nat_cmp, on}
 use Rattle.std.specs.Cmp.Lexicographic.{slice_cmp}
-use Rattle.serde_json.specs.Data.{Data, Members}
-use Rattle.serde_json.specs.Find.{as_bool, get_member}
+use Rattle.serde_json.specs.Data.{Data, Members, no_members}
+use Rattle.serde_json.specs.Find.{as_bool, as_object, get_member}
 use Rattle.request_model.specs.declared.document.GValue.{GValue}
 use Rattle.request_model.specs.declared.document.GValue.TheOpen.{GValue-F}
 use Rattle.request_model.specs.declared.document.GValue.TheViews.{out-GValue, out-GPair}
@@ -67,12 +67,12 @@ fragments d = filter_map fragment_of d.definitions
 abbrev pub fragment_named : List Fragment → Text → Option Fragment
 fragment_named fs name = find (λ (f : Fragment). bytes_eq name f.name) fs
 
+abbrev pub is_name_of : Text → Option Text → Bool
+is_name_of name (Some n) = bytes_eq name n
+is_name_of name None = false
+
 abbrev pub is_called : Text → Operation → Bool
-is_called name o = called o.name
-  where
-    called : Option Text → Bool
-    called (Some n) = bytes_eq name n
-    called None = false
+is_called name o = is_name_of name o.name
 
 abbrev pub or_no_operation : Option Operation → Result Operation FlatFault
 or_no_operation (Some o) = Ok o
@@ -97,29 +97,33 @@ pub record Scope : Type 0 where
   pub vars : List VarDef
   pub values : Members
 
+-- the values that a request gives in its `variables`; what is no object gives none
+abbrev pub given_values : Data → Members
+given_values d = unwrap_or (as_object d) no_members
+
+abbrev pub bool_in : GValue-F GValue GPair → Option Bool
+bool_in (GValue-F.Bool b) = Some b
+bool_in _ = None
+
 abbrev pub literal_bool : GValue → Option Bool
 literal_bool x = bool_in (out-GValue x)
-  where
-    bool_in : GValue-F GValue GPair → Option Bool
-    bool_in (GValue-F.Bool b) = Some b
-    bool_in _ = None
+
+abbrev pub bool_given : Option Data → Option GValue → Option Bool
+bool_given (Some given) default = as_bool given
+bool_given None default = option_and_then literal_bool default
 
 -- the value given for a variable counts, also where it is no boolean, and else its default
 abbrev pub variable_bool : Members → VarDef → Option Bool
-variable_bool values x = counted (get_member x.name values)
-  where
-    counted : Option Data → Option Bool
-    counted (Some given) = as_bool given
-    counted None = option_and_then literal_bool x.default
+variable_bool values x = bool_given (get_member x.name values) x.default
+
+abbrev pub bool_by : Scope → GValue-F GValue GPair → Option Bool
+bool_by s (GValue-F.Bool b) = Some b
+bool_by s (GValue-F.Var name) = option_and_then (variable_bool s.values) (find (λ (v : VarDef). bytes_eq name v.name) s.vars)
+bool_by s _ = None
 
 -- a boolean literal, or a declared variable whose value is a boolean
 abbrev pub bool_of : Scope → GValue → Option Bool
-bool_of s x = bool_by (out-GValue x)
-  where
-    bool_by : GValue-F GValue GPair → Option Bool
-    bool_by (GValue-F.Bool b) = Some b
-    bool_by (GValue-F.Var name) = option_and_then (variable_bool s.values) (find (λ (v : VarDef). bytes_eq name v.name) s.vars)
-    bool_by _ = None
+bool_of s x = bool_by s (out-GValue x)
 
 -- the condition of a directive: its one argument, `if`
 abbrev pub condition_in : Scope → List GPair → Option Bool
@@ -282,12 +286,12 @@ fields_of g = g.first ∷ g.others
 abbrev pub inner_set : Group → List Selection
 inner_set g = flat_map (λ (f : Selected). f.select) (fields_of g)
 
+abbrev pub has_some : {X : Type 0} → List X → Bool
+has_some [] = false
+has_some (x ∷ xs) = true
+
 abbrev pub has_inner : Selected → Bool
-has_inner f = nonempty f.select
-  where
-    nonempty : List Selection → Bool
-    nonempty [] = false
-    nonempty (x ∷ xs) = true
+has_inner f = has_some f.select
 
 module _ (s : Scope) where
   -- the fields of an object and of those in it, down to so many levels
@@ -374,10 +378,6 @@ served op.Query = Some word.Query
 served op.Subscription = Some word.Subscription
 served op.Mutation = None
 
-abbrev pub has_any : List Directive → Bool
-has_any [] = false
-has_any (d ∷ ds) = true
-
 module _ (d : Document) (values : Members) (o : Operation) where
   abbrev pub scope : Scope
   scope = record { fragments = fragments d; vars = o.vars; values = values }
@@ -387,7 +387,7 @@ module _ (d : Document) (values : Members) (o : Operation) where
 
   -- a directive on the definition, or one that isn't served
   abbrev pub has_stray : List Directive → List Selection → Bool
-  has_stray ds set = has_any ds || list_any (λ x. not (is_served x)) (directives_in set)
+  has_stray ds set = has_some ds || list_any (λ x. not (is_served x)) (directives_in set)
 
   abbrev pub has_no_boolean : List Directive → List Selection → Bool
   has_no_boolean ds set = list_any (λ x. is_served x && is_none (condition scope x)) (directives_in set)
@@ -397,7 +397,7 @@ module _ (d : Document) (values : Members) (o : Operation) where
   HasFault fault.NotServed = served o.word ≡ None
   HasFault fault.UnknownFragment = InReach (fragments d) o has_unknown
   HasFault fault.FragmentCycle = (f : Fragment) × IsReached (fragments d) o.select f × IsReached (fragments d) f.select f
-  HasFault fault.NoDirective = IsTrue (list_any (λ (v : VarDef). has_any v.directives) o.vars) ⊎ InReach (fragments d) o has_stray
+  HasFault fault.NoDirective = IsTrue (list_any (λ (v : VarDef). has_some v.directives) o.vars) ⊎ InReach (fragments d) o has_stray
   HasFault fault.NotBoolean = InReach (fragments d) o has_no_boolean
   HasFault fault.TooLarge = IsTrue (is_large (fields_seen scope o.select))
   HasFault fault.Conflict = IsTrue (shares_name d o) ⊎ FieldsConflict scope most_levels o.select

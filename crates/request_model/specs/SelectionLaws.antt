@@ -29,29 +29,29 @@ use Rattle.request_model.specs.Canonical.{canonical}
 abbrev pub renamed : GPair → GValue → GPair
 renamed p x = roll-GPair (record { name = (out-GPair p).name; value = x })
 
+abbrev pub bare_initial_by : GValue → GValue-F GValue GPair → GValue
+bare_initial_by x (GValue-F.Object pairs) = v.Object (map (λ p. renamed p v.Null) pairs)
+bare_initial_by x _ = x
+
 abbrev pub bare_initial : GValue → GValue
-bare_initial x = initial_in (out-GValue x)
-  where
-    initial_in : GValue-F GValue GPair → GValue
-    initial_in (GValue-F.Object pairs) = v.Object (map (λ p. renamed p v.Null) pairs)
-    initial_in _ = x
+bare_initial x = bare_initial_by x (out-GValue x)
 
 abbrev pub bare_pair : GPair → GPair
 bare_pair p = if bytes_eq (out-GPair p).name (codes "initial_value") then renamed p (bare_initial (out-GPair p).value) else p
 
+abbrev pub bare_object_by : GValue → GValue-F GValue GPair → GValue
+bare_object_by x (GValue-F.Object pairs) = v.Object (map bare_pair pairs)
+bare_object_by x _ = x
+
 abbrev pub bare_object : GValue → GValue
-bare_object x = object_in (out-GValue x)
-  where
-    object_in : GValue-F GValue GPair → GValue
-    object_in (GValue-F.Object pairs) = v.Object (map bare_pair pairs)
-    object_in _ = x
+bare_object x = bare_object_by x (out-GValue x)
+
+abbrev pub bare_cursor_by : GValue → GValue-F GValue GPair → GValue
+bare_cursor_by other (GValue-F.Many items) = v.Many (map bare_object items)
+bare_cursor_by other _ = other
 
 abbrev pub bare_cursor : GValue → GValue
-bare_cursor x = cursor_in (out-GValue x)
-  where
-    cursor_in : GValue-F GValue GPair → GValue
-    cursor_in (GValue-F.Many items) = v.Many (map bare_object items)
-    cursor_in _ = bare_object x
+bare_cursor x = bare_cursor_by (bare_object x) (out-GValue x)
 
 abbrev pub bare_argument : GPair → GPair
 bare_argument p = if bytes_eq (out-GPair p).name (codes "cursor") then renamed p (bare_cursor (out-GPair p).value) else p

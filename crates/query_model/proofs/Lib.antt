@@ -1,0 +1,8 @@
+pub mod QueryRules
+mod Samples
+mod ResultRows
+mod AdmissionRows
+mod UsualClient
+mod PlanRows
+mod VariableRows
+mod StreamRows

@@ -1,0 +1,11 @@
+pub mod Names
+pub mod Variables
+pub mod Conditions
+pub mod Queries
+pub mod Refusals
+pub mod Walk
+pub mod Admission
+pub mod Taken
+pub mod Results
+pub mod Plans
+pub mod Laws
