@@ -4,7 +4,7 @@ use Rattle.std.specs.List.{list_any}
 use Rattle.request_model.specs.declared.document.VarDef.{VarDef}
 use Rattle.request_model.specs.declared.flat.FlatFault.{FlatFault}
 use Rattle.request_model.specs.declared.flat.FlatFault.TheVariants as fault
-use Rattle.request_model.specs.Selection.{Fragment, Operation, Scope, IsReached, InReach, has_any}
+use Rattle.request_model.specs.Selection.{Fragment, Operation, Scope, IsReached, InReach, has_some}
 use Rattle.gql_flat.specs.declared.walks.Check.{Check}
 use Rattle.gql_flat.specs.declared.walks.Check.TheVariants as check
 use Rattle.gql_flat.specs.Walks.{fails}
@@ -14,7 +14,7 @@ abbrev pub InReachFails : Check → Scope → Operation → Type 0
 InReachFails c s o = InReach s.fragments o (fails c s)
 
 abbrev pub HasStray : Scope → Operation → Type 0
-HasStray s o = IsTrue (list_any (λ (v : VarDef). has_any v.directives) o.vars) ⊎ InReachFails check.Served s o
+HasStray s o = IsTrue (list_any (λ (v : VarDef). has_some v.directives) o.vars) ⊎ InReachFails check.Served s o
 
 -- a fragment that the operation reaches reaches itself
 abbrev pub HasFragmentCycle : Scope → Operation → Type 0

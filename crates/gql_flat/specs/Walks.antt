@@ -5,7 +5,7 @@ use Rattle.std.specs.Str.{bytes_eq}
 use Rattle.request_model.specs.declared.document.Directive.{Directive}
 use Rattle.request_model.specs.declared.document.Selection.{Selection}
 use Rattle.request_model.specs.Strings.{Text}
-use Rattle.request_model.specs.Selection.{Fragment, Scope, fragment_named, spreads, directives_in, has_any, is_served, condition}
+use Rattle.request_model.specs.Selection.{Fragment, Scope, fragment_named, spreads, directives_in, has_some, is_served, condition}
 use Rattle.gql_flat.specs.Graph.{is_marked, Reaches}
 use Rattle.gql_flat.specs.declared.walks.Check.{Check}
 use Rattle.gql_flat.specs.declared.walks.Check.TheVariants as check
@@ -24,7 +24,7 @@ edges_of fs = map (λ (f : Fragment). targets_of fs f.select) fs
 -- whether the check refuses a definition with these directives and selections
 abbrev pub fails : Check → Scope → List Directive → List Selection → Bool
 fails check.Fragments s ds set = list_any (λ name. is_none (fragment_named s.fragments name)) (spreads set)
-fails check.Served s ds set = has_any ds || list_any (λ x. not (is_served x)) (directives_in set)
+fails check.Served s ds set = has_some ds || list_any (λ x. not (is_served x)) (directives_in set)
 fails check.Booleans s ds set = list_any (λ x. is_served x && is_none (condition s x)) (directives_in set)
 
 abbrev pub some_marked_fails : (Fragment → Bool) → List Bool → List Fragment → Bool

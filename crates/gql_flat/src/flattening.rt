@@ -7,7 +7,7 @@ ghost use Rattle.std.specs.Str.{bytes_eq};
 ghost use Rattle.serde_json.specs.View.{view};
 ghost use Rattle.request_model.specs.Selection as spec;
 ghost use Rattle.gql_flat.specs.Fields.{FailsSo};
-ghost use Rattle.gql_flat.specs.Names.{members_of};
+ghost use Rattle.request_model.specs.Selection.{given_values};
 ghost use Rattle.gql_flat.specs.Scopes.{scope_of};
 ghost use Rattle.gql_flat.specs.Whole.{IsWhole, OperationFlattens};
 
@@ -160,7 +160,7 @@ fn scope_for<'a>(
     operation: &Operation<'a>,
     variables: &'a Value,
 ) -> Result<Scope<'a>, NoMemory>
-    ensures { IfOk result (λ scope. scope_of scope ≡ spec.scope document.now (members_of (view variables.now)) operation.now) }
+    ensures { IfOk result (λ scope. scope_of scope ≡ spec.scope document.now (given_values (view variables.now)) operation.now) }
 {
     let fragments = fragments_of(alloc, document)?;
     Ok(Scope {
@@ -195,7 +195,7 @@ fn flatten_operation<'a>(
     variables: &'a Value,
 ) -> Result<Flat, FlatFault>
     requires { operations.now ≡ spec.operations document.now }
-    ensures { OperationFlattens document.now (members_of (view variables.now)) operation.now result }
+    ensures { OperationFlattens document.now (given_values (view variables.now)) operation.now result }
 {
     let Some(kind) = served_word(operation) else {
         return Err(FlatFault::NotServed);
@@ -246,7 +246,7 @@ fn flatten_operation<'a>(
 /// `NoMemory` comes for want of memory alone. Collection stops at the first field that is too many or too deep, and an
 /// object visits each selection of the document at most once.
 pub fn flatten(alloc: Global, document: &Document, request: &Request) -> Result<Flat, FlatFault>
-    ensures { result ≢ Err FlatFault.NoMemory → spec.Flattens document.now request.now.operation (members_of (view request.now.variables)) result }
+    ensures { result ≢ Err FlatFault.NoMemory → spec.Flattens document.now request.now.operation (given_values (view request.now.variables)) result }
 {
     let Ok(operations) = operations_of(alloc, document) else {
         return Err(FlatFault::NoMemory);

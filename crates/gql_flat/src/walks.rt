@@ -200,7 +200,7 @@ pub fn reach_fails(
 }
 
 pub fn vars_have_directives(vars: &[VarDef]) -> bool
-    ensures { result ≡ list_any (λ v. spec.has_any v.directives) vars.now }
+    ensures { result ≡ list_any (λ v. spec.has_some v.directives) vars.now }
 {
     for variable in vars {
         if !variable.directives.is_empty() {

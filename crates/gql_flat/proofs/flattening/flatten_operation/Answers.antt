@@ -1,6 +1,6 @@
 use Rattle.std.proofs.Common.{◌∙◌, inl, inr, sym}
 use Rattle.serde_json.specs.View.{view}
-use Rattle.gql_flat.specs.Names.{members_of}
+use Rattle.request_model.specs.Selection.{given_values}
 use Rattle.gql_flat.specs.Scopes.{scope_of}
 use Rattle.gql_flat.proofs.ReachRules.{not_so}
 use Rattle.gql_flat.proofs.TruthRules.{at_some, at_none}
@@ -9,20 +9,20 @@ use Rattle.gql_flat.proofs.flattening.flatten_operation.Goals as goal
 
 pub returns-in-Some-refusal : goal.returns-in-Some-refusal
 returns-in-Some-refusal c =
-    inr (refused_first c.args.document.now (members_of (view c.args.variables.now)) c.args.operation.now (scope_of c.in-Ok.scope) c.in-Ok.ensures c.in-Some.kind (sym c.in-Some.ensures) c.in-Some-refusal.fault
+    inr (refused_first c.args.document.now (given_values (view c.args.variables.now)) c.args.operation.now (scope_of c.in-Ok.scope) c.in-Ok.ensures c.in-Some.kind (sym c.in-Some.ensures) c.in-Some-refusal.fault
     (at_some _ _ _ c.in-Some-refusal.fault c.in-Some-refusal.is c.in-Ok-first_refusal.ensures))
 
 pub returns-in-Err-collect_whole : goal.returns-in-Err-collect_whole
 returns-in-Err-collect_whole c =
     let out = at_none _ _ _ c.in_default-refusal.is c.in-Ok-first_refusal.ensures in
-    fails_whole c.args.document.now (members_of (view c.args.variables.now)) c.args.operation.now (scope_of c.in-Ok.scope) c.in-Ok.ensures c.in-Some.kind (sym c.in-Some.ensures) out
+    fails_whole c.args.document.now (given_values (view c.args.variables.now)) c.args.operation.now (scope_of c.in-Ok.scope) c.in-Ok.ensures c.in-Some.kind (sym c.in-Some.ensures) out
     c.in-Err-collect_whole.fault c.in-Err-collect_whole.ensures
 
 pub returns-then-whole : goal.returns-then-whole
 returns-then-whole c =
     let out = at_none _ _ _ c.in_default-refusal.is c.in-Ok-first_refusal.ensures in
     let d = c.args.document.now in
-    let values = members_of (view c.args.variables.now) in
+    let values = given_values (view c.args.variables.now) in
     let o = c.args.operation.now in
     let s = scope_of c.in-Ok.scope in
     inr (conflict_first d values o s c.in-Ok.ensures c.in-Some.kind (sym c.in-Some.ensures) out c.in-Ok-collect_whole.ensures.small
@@ -32,7 +32,7 @@ pub returns-then-shared : goal.returns-then-shared
 returns-then-shared c =
     let out = at_none _ _ _ c.in_default-refusal.is c.in-Ok-first_refusal.ensures in
     let d = c.args.document.now in
-    let values = members_of (view c.args.variables.now) in
+    let values = given_values (view c.args.variables.now) in
     let o = c.args.operation.now in
     let s = scope_of c.in-Ok.scope in
     inr (conflict_first d values o s c.in-Ok.ensures c.in-Some.kind (sym c.in-Some.ensures) out c.in-Ok-collect_whole.ensures.small
@@ -42,7 +42,7 @@ pub returns-in-Ok-flat_of : goal.returns-in-Ok-flat_of
 returns-in-Ok-flat_of c =
     let out = at_none _ _ _ c.in_default-refusal.is c.in-Ok-first_refusal.ensures in
     let d = c.args.document.now in
-    let values = members_of (view c.args.variables.now) in
+    let values = given_values (view c.args.variables.now) in
     let o = c.args.operation.now in
     let s = scope_of c.in-Ok.scope in
     record {
