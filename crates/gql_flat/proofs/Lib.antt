@@ -4,6 +4,7 @@ pub mod GraphRules
 pub mod HeightRules
 pub mod OrderRules
 pub mod PartRules
+pub mod PlaceRules
 pub mod ReachRules
 pub mod TruthRules
 pub mod WholeRules

@@ -2,6 +2,7 @@ pub mod Fields
 pub mod Graph
 pub mod Names
 pub mod Parts
+pub mod Places
 pub mod Refusals
 pub mod Scopes
 pub mod Texts

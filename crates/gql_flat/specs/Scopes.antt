@@ -5,4 +5,4 @@ use Rattle.gql_flat.specs.declared.scope.Scope.{Scope}
 use Rattle.request_model.specs.Selection.{given_values}
 
 abbrev pub scope_of : Scope → spec.Scope
-scope_of s = record { fragments = s.fragments.items; vars = s.vars.now; values = given_values (view s.variables.now) }
+scope_of s = record { fragments = s.fragments; vars = s.vars.now; values = given_values (view s.variables.now) }

@@ -7,6 +7,7 @@ ghost use Rattle.std.specs.Str.{bytes_eq};
 ghost use Rattle.request_model.specs.Selection as spec;
 ghost use Rattle.gql_flat.specs.Scopes.{scope_of};
 
+use crate::names::Names;
 use crate::operation::{Fragment, same};
 use crate::scope::Scope;
 use request_model::{Directive, GPair, Selection};
@@ -61,7 +62,7 @@ impl<'a> Model for Group<'a> {
 /// What is collected of one object: the fragments that were spread, the type conditions that were met, and the fields.
 #[derive(Drop)]
 pub struct Object<'a> {
-    pub visited: Vec<&'a Str>,
+    pub visited: Names<'a>,
     pub conditions: Vec<&'a Str>,
     pub groups: Vec<Group<'a>>,
 }
@@ -78,7 +79,7 @@ impl<'a> Model for Object<'a> {
 
     ghost coded = { Prim.hlevel (codes, gvalue.the_row.coded, gpair.the_row.coded, selection.the_row.coded) };
 
-    ghost view = { λ c. record { visited = map (λ t. t.now) c.visited.items; conditions = map (λ t. t.now) c.conditions.items; groups = c.groups.items } };
+    ghost view = { λ c. record { visited = c.visited; conditions = map (λ t. t.now) c.conditions.items; groups = c.groups.items } };
 }
 
 /// The place of the group of a key, or the number of groups.
@@ -126,15 +127,11 @@ fn add_field<'a>(
     Ok(())
 }
 
-fn is_visited(visited: &[&Str], name: &str) -> bool
-    ensures { result ≡ list_any (bytes_eq name.now) (map (λ t. t.now) visited.now) }
+#[tactic(auto, using(crate::proofs::PlaceRules::among))]
+fn is_visited(visited: &Names<'_>, name: &str) -> bool
+    ensures { result ≡ list_any (bytes_eq name.now) visited.now }
 {
-    for other in visited {
-        if same(name, other.as_str()) {
-            return true;
-        }
-    }
-    false
+    visited.place(name).is_some()
 }
 
 /// Whether the fragment is met for the first time; then it is noted with its type condition.
@@ -143,7 +140,7 @@ fn visit<'a>(fragment: &Fragment<'a>, found: &mut Object<'a>) -> Result<bool, No
         ((list_any (bytes_eq fragment.now.name) found.old.visited ≡ false) × (found.new ≡ spec.noted fragment.now.on (spec.with_visited fragment.now.name found.old)))
         ((list_any (bytes_eq fragment.now.name) found.old.visited ≡ true) × (found.new ≡ found.old))) }
 {
-    if is_visited(found.visited.as_slice(), fragment.name.as_str()) {
+    if is_visited(&found.visited, fragment.name.as_str()) {
         return Ok(false);
     }
     found.visited.push(fragment.name)?;
@@ -334,7 +331,7 @@ fn nothing<'a>(alloc: Global) -> Object<'a>
     ensures { result ≡ spec.nothing }
 {
     Object {
-        visited: Vec::new(alloc),
+        visited: Names::new(alloc),
         conditions: Vec::new(alloc),
         groups: Vec::new(alloc),
     }
@@ -349,7 +346,13 @@ pub fn collected<'a>(
     ensures { IfOk result (λ found. found ≡ spec.collected (scope_of scope.now) set.now) }
 {
     let mut found = nothing(alloc);
-    collect(alloc, scope, scope.fragments.len(), set, &mut found)?;
+    collect(
+        alloc,
+        scope,
+        scope.fragments.as_slice().len(),
+        set,
+        &mut found,
+    )?;
     Ok(found)
 }
 
@@ -391,7 +394,7 @@ pub fn collected_inside<'a>(
     ensures { IfOk result (λ found. found ≡ spec.collected (scope_of scope.now) (spec.inner_set group.now)) }
 {
     let mut found = nothing(alloc);
-    let depth = scope.fragments.len();
+    let depth = scope.fragments.as_slice().len();
     collect_selected(alloc, scope, depth, &group.first, &mut found)?;
     collect_fields(alloc, scope, depth, group.others.as_slice(), &mut found)?;
     Ok(found)

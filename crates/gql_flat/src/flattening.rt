@@ -14,6 +14,7 @@ ghost use Rattle.gql_flat.specs.Whole.{IsWhole, OperationFlattens};
 use crate::collecting::{collected, conditions_of, groups_of};
 use crate::copies::copy_variables;
 use crate::fields::{Tally, copy_texts, fields};
+use crate::fragments::Fragments;
 use crate::operation::{Fragment, Operation, chosen, fragments_of, operations_of, same};
 use crate::refusals::first_refusal;
 use crate::scope::Scope;
@@ -125,10 +126,10 @@ pub struct Whole {
     pub conflict: bool,
 }
 
-fn collect_whole(
+fn collect_whole<'a>(
     alloc: Global,
-    scope: &Scope<'_>,
-    operation: &Operation<'_>,
+    scope: &Scope<'a>,
+    operation: &Operation<'a>,
 ) -> Result<Whole, FlatFault>
     ensures { MatchResult result (λ whole. IsWhole (scope_of scope.now) operation.now.select whole) (λ e. FailsSo e (IsTrue (spec.is_large (spec.fields_seen (scope_of scope.now) operation.now.select)))) }
 {
@@ -162,7 +163,7 @@ fn scope_for<'a>(
 ) -> Result<Scope<'a>, NoMemory>
     ensures { IfOk result (λ scope. scope_of scope ≡ spec.scope document.now (given_values (view variables.now)) operation.now) }
 {
-    let fragments = fragments_of(alloc, document)?;
+    let fragments = Fragments::of(alloc, fragments_of(alloc, document)?)?;
     Ok(Scope {
         fragments,
         vars: operation.vars,

@@ -7,6 +7,7 @@ ghost use Rattle.request_model.specs.Selection as spec;
 ghost use Rattle.request_model.specs.declared.document.VarDef.{VarDef};
 ghost use Rattle.gql_flat.specs.Scopes.{scope_of};
 
+use crate::fragments::Fragments;
 use crate::operation::{Fragment, same};
 use request_model::{Directive, GPair, GValue, VarDef};
 use serde_json::Value;
@@ -14,7 +15,7 @@ use serde_json::Value;
 /// The fragments of a document, the variables of an operation, and the values that are given for them.
 #[derive(Drop)]
 pub struct Scope<'a> {
-    pub fragments: Vec<Fragment<'a>>,
+    pub fragments: Fragments<'a>,
     pub vars: &'a [VarDef],
     pub variables: &'a Value,
 }
@@ -45,12 +46,7 @@ impl<'a> Scope<'a> {
     pub fn fragment(&self, name: &str) -> Option<&Fragment<'a>>
         ensures { option_copied result ≡ spec.fragment_named (scope_of self.now).fragments name.now }
     {
-        for fragment in &self.fragments {
-            if same(name, fragment.name.as_str()) {
-                return Some(fragment);
-            }
-        }
-        None
+        self.fragments.named(name)
     }
 
     fn variable(&self, name: &str) -> Option<&'a VarDef>

@@ -191,7 +191,7 @@ pub fn reach_fails(
     if fails(alloc, scope, check, operation.directives, operation.select)? {
         return Ok(true);
     }
-    for (index, fragment) in scope.fragments.iter().enumerate() {
+    for (index, fragment) in scope.fragments.as_slice().iter().enumerate() {
         if fragment_fails(alloc, scope, check, marks[index], fragment)? {
             return Ok(true);
         }
