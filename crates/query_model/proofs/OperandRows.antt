@@ -1,18 +1,15 @@
 -- Worked rows of operands from variables, of what a role sees, of session slots and of permission limits.
-use Rattle.std.proofs.Common.{◌≡◌, ℕ, Bool, List, [], ◌∷◌, map, Option, Some, None, Result, Ok, Err, true, false, refl, pos}
+use Rattle.std.proofs.Common.{◌≡◌, List, [], ◌∷◌, map, Option, Some, None, Result, Ok, Err, true, false}
 use Rattle.std.specs.Prelude.{codes}
 use Rattle.std.specs.Fmt.{digits}
 use Rattle.json.specs.Print.{escape_byte}
-use Rattle.serde_json.specs.Data.{Members, no_members}
-use Rattle.scalar_val.specs.declared.val.Kind.{Kind}
+use Rattle.serde_json.specs.Data.{no_members}
 use Rattle.scalar_val.specs.declared.val.Kind.TheVariants as kind
-use Rattle.scalar_val.specs.declared.val.Val.{Val}
 use Rattle.scalar_val.specs.declared.val.Val.TheVariants as val
 use Rattle.data_model.specs.Rows.{Database}
 use Rattle.role_model.specs.declared.filter.Filter.TheVariants as filter
 use Rattle.role_model.specs.declared.filter.Op.TheVariants as compare
 use Rattle.role_model.specs.declared.filter.Operand.TheVariants as operand
-use Rattle.role_model.specs.declared.filter.Slot.TheVariants.{One, Many}
 use Rattle.role_model.specs.declared.metadata.LinkDef.{LinkDef}
 use Rattle.role_model.specs.declared.metadata.Metadata.{Metadata}
 use Rattle.role_model.specs.declared.metadata.RoleDef.{RoleDef}
@@ -35,12 +32,12 @@ use Rattle.query_model.specs.declared.fault.FaultKind.{FaultKind}
 use Rattle.query_model.specs.declared.fault.FaultKind.TheVariants as fault
 use Rattle.query_model.specs.declared.fault.QueryFault.{QueryFault}
 use Rattle.query_model.specs.declared.kind.SubKind.TheVariants as sub
-use Rattle.query_model.specs.Queries.{Query, SessionSlot, selection_slots, text_variables}
+use Rattle.query_model.specs.Queries.{Query, selection_slots, text_variables}
 use Rattle.query_model.specs.Refusals.{refusal}
 use Rattle.query_model.specs.Admission.{Admitted, admitted}
 use Rattle.query_model.specs.Plans.{plan_of}
 use Rattle.query_model.specs.Results.{result}
-use Rattle.query_model.proofs.QueryRules.{queries, plans}
+use Rattle.query_model.proofs.QueryRules.{queries}
 use Rattle.query_model.proofs.Samples.{metadata, table, column, user_table, post_table, posts_link, author_link, users, posts, admin, session, leaf, node, subscription, pair, one, order_by, int, text, post}
 
 abbrev refused_with : Result Admitted QueryFault → Option QueryFault

@@ -26,7 +26,7 @@ use Rattle.query_model.specs.declared.kind.SubKind.TheVariants as sub
 use Rattle.query_model.specs.Conditions.{conditions_in}
 use Rattle.query_model.specs.Queries.{Query, binding_of}
 use Rattle.query_model.specs.Admission.{admitted}
-use Rattle.query_model.specs.Taken.{Result}
+use Rattle.query_model.specs.Taken.{Outcome}
 use Rattle.query_model.specs.Results.{result, view, values}
 use Rattle.query_model.proofs.QueryRules.{queries, not-one, fold-in, fold-at}
 use Rattle.query_model.proofs.Samples.{metadata, table, column, users, posts, admin, reader_with, leaf, node, subscription, pair, one, order_by, int, text, post}
@@ -111,7 +111,7 @@ by_title = subscription []
     ∷ pair (codes "cursor") (v.Many (v.Object (pair (codes "initial_value") (one (codes "title") (v.Text [])) ∷ pair (codes "ordering") (v.Enum (codes "ASC")) ∷ []) ∷ [])) ∷ [])
     (leaf (codes "id") ∷ leaf (codes "title") ∷ []))
 
-abbrev answer : Text → ℕ → Val → Result
+abbrev answer : Text → ℕ → Val → Outcome
 answer t rows last = record { text = t; rows = rows; last = last }
 
 equal_cursor_values : map (λ cursor. result posts (stream by_title) cursor titles) (text [] ∷ text (codes "t") ∷ text (codes "u") ∷ []) ≡

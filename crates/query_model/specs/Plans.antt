@@ -50,7 +50,7 @@ use Rattle.query_model.specs.Variables.{number_in}
 use Rattle.query_model.specs.Conditions.{Reader, where_filter, orders_in}
 use Rattle.query_model.specs.Walk.{is_null_literal}
 use Rattle.query_model.specs.Queries.{SessionSlot, slot_cmp, session_name, root_of, selection_slots, text_variables}
-use Rattle.query_model.specs.Taken.{Extent, All, First, Next, Wanted, joins, is_beyond, Pair, wanted_text, quoted_text, Result, result_of}
+use Rattle.query_model.specs.Taken.{Extent, All, First, Next, Wanted, joins, is_beyond, Pair, wanted_text, quoted_text, Outcome, result_of}
 use Rattle.query_model.specs.Results.{Change, changed}
 
 -- ---- what a plan gives: the same nested resolvers, with the plan's selections in the place of the fields
@@ -93,7 +93,7 @@ module _ (names : List Text) (b : Binding) (db : Database) where
 abbrev pub any_row : Row → Bool
 any_row row = true
 
-abbrev pub planned : Plan → Binding → Database → Result
+abbrev pub planned : Plan → Binding → Database → Outcome
 planned p b db = result_of db p.key (select_wanted b any_row (out-Select p.root)) (map (field_pair p.names b db) (out-Select p.root).fields)
 
 -- ---- a plan fits a catalog: all tables and columns are there, and a stream stands at the root alone
@@ -212,12 +212,12 @@ module _ (v : View) (names : List Text) (slots : List SessionSlot) where
   abbrev pub operand_of : Kind → GValue → Operand
   operand_of k x = operand_by (Const (literal_value k x)) (variable_in x)
 
-  abbrev pub items_by : Items → Option Text → Items
-  items_by others (Some name) = items.Var (slot_of names name)
-  items_by others None = others
+  abbrev pub items_or : Items → Option Text → Items
+  items_or others (Some name) = items.Var (slot_of names name)
+  items_or others None = others
 
   abbrev pub items_of : Kind → GValue → Items
-  items_of k x = items_by (items.Each (map (operand_of k) (items_in x))) (variable_in x)
+  items_of k x = items_or (items.Each (map (operand_of k) (items_in x))) (variable_in x)
 
   abbrev pub operands : Reader
   operands = record { one = operand_of; many = items_of }

@@ -33,7 +33,7 @@ use Rattle.query_model.specs.Names.{Root, RowsOf, RowOf, StreamOf, NoRoot, Meant
 use Rattle.query_model.specs.Variables.{value_read, values_read, number_read}
 use Rattle.query_model.specs.Conditions.{Reader, where_filter, orders_in}
 use Rattle.query_model.specs.Queries.{Query, SessionSlot, SessionValue, slot_cmp, session_name, root_of, view_of}
-use Rattle.query_model.specs.Taken.{Extent, All, First, Next, Wanted, joins, is_beyond, Pair, wanted_text, quoted_text, null_text, Result, result_of}
+use Rattle.query_model.specs.Taken.{Extent, All, First, Next, Wanted, joins, is_beyond, Pair, wanted_text, quoted_text, null_text, Outcome, result_of}
 
 -- ---- a role's filter with other values in the places of its own: `change` is told the table and the column beside which
 -- a value stands
@@ -62,8 +62,8 @@ abbrev pub nothing_bound : Binding
 nothing_bound = record { vars = []; session = []; cursor = val.Null }
 
 -- the truth of such a condition is yes
-abbrev pub is_met : Filter → Row → Bool
-is_met f row = is_yes (truth_of nothing_bound f row)
+abbrev pub passes : Filter → Row → Bool
+passes f row = is_yes (truth_of nothing_bound f row)
 
 module _ (m : Metadata) (q : Query) where
   abbrev pub view : View
@@ -83,7 +83,7 @@ module _ (m : Metadata) (q : Query) where
   closing table column (Var slot) = Var slot
 
   abbrev pub permitted_by : ℕ → Row → Option Filter → Bool
-  permitted_by table row (Some f) = is_met (changed closing table f) row
+  permitted_by table row (Some f) = passes (changed closing table f) row
   permitted_by table row None = true
 
   -- the role's filter of a table is yes, or there is none
@@ -92,7 +92,7 @@ module _ (m : Metadata) (q : Query) where
 
   -- `where` is yes
   abbrev pub is_asked : ℕ → List GPair → Row → Bool
-  is_asked table args row = is_met (where_filter view values table (argument (codes "where") args)) row
+  is_asked table args row = passes (where_filter view values table (argument (codes "where") args)) row
 
   abbrev pub column_equals : ℕ → Row → ℕ → Option GValue → Bool
   column_equals table row column (Some x) = is_yes (compared Eq (cell row column) (value_read q.variables (kind_of view table column) x))
@@ -132,15 +132,15 @@ module _ (m : Metadata) (q : Query) where
 
   module _ (db : Database) where
     -- a column's value, the table's name, or what a relationship gives with this row as parent
-    abbrev pub value_text : FlatField-F Pair → ℕ → Row → Meant → Text
-    value_text f table row Typename = quoted_text (type_name view table)
-    value_text f table row (AColumn column) = val_text (cell row column)
-    value_text f table row (ALink l) = wanted_text db (link_wanted l f.args row) f.fields
-    value_text f table row Unseen = null_text
+    abbrev pub member_text : FlatField-F Pair → ℕ → Row → Meant → Text
+    member_text f table row Typename = quoted_text (type_name view table)
+    member_text f table row (AColumn column) = val_text (cell row column)
+    member_text f table row (ALink l) = wanted_text db (link_wanted l f.args row) f.fields
+    member_text f table row Unseen = null_text
 
     -- a field's key and value in the object of a row
     abbrev pub pair_step : FlatField-F Pair → Pair
-    pair_step f table row = named_text (quoted_text f.key) (value_text f table row (meant view table f.name))
+    pair_step f table row = named_text (quoted_text f.key) (member_text f table row (meant view table f.name))
 
     abbrev pub pair_of : FlatField → Pair
     pair_of = fold-FlatField Pair pair_step
@@ -152,21 +152,21 @@ module _ (m : Metadata) (q : Query) where
   root_wanted cursor (StreamOf table) args = Some (stream_wanted cursor table args)
   root_wanted cursor NoRoot args = None
 
-  abbrev pub no_result : Result
+  abbrev pub no_result : Outcome
   no_result = record { text = []; rows = 0; last = val.Null }
 
-  abbrev pub result_by : Database → FlatField-F FlatField → Option Wanted → Result
+  abbrev pub result_by : Database → FlatField-F FlatField → Option Wanted → Outcome
   result_by db f (Some w) = result_of db f.key w (map (pair_of db) f.fields)
   result_by db f None = no_result
 
-  abbrev pub field_result : Val → Database → FlatField → Result
+  abbrev pub field_result : Val → Database → FlatField → Outcome
   field_result cursor db f = result_by db (out-FlatField f) (root_wanted cursor (root_of view q.selection.kind f) (out-FlatField f).args)
 
   -- a query has one root field
-  abbrev pub root_result : Val → Database → List FlatField → Result
+  abbrev pub root_result : Val → Database → List FlatField → Outcome
   root_result cursor db (f ∷ []) = field_result cursor db f
   root_result cursor db [] = no_result
   root_result cursor db (f ∷ g ∷ fs) = no_result
 
-  abbrev pub result : Val → Database → Result
+  abbrev pub result : Val → Database → Outcome
   result cursor db = root_result cursor db q.selection.fields

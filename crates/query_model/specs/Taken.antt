@@ -113,7 +113,7 @@ payload_text key text = in_braces (named_text (quoted_text (codes "data")) (in_b
 -- ---- results
 
 -- the payload's text, the number of root rows, and for a stream the cursor column's value in the last of them, else null
-pub record Result : Type 0 where
+pub record Outcome : Type 0 where
   pub text : Text
   pub rows : ℕ
   pub last : Val
@@ -128,5 +128,5 @@ last_value (Next column descending batch) rows = cell (last_row rows) column
 last_value (All orders offset limit) rows = val.Null
 last_value First rows = val.Null
 
-abbrev pub result_of : Database → Text → Wanted → List Pair → Result
+abbrev pub result_of : Database → Text → Wanted → List Pair → Outcome
 result_of db key w pairs = record { text = payload_text key (wanted_text db w pairs); rows = length (taken db w); last = last_value w.extent (taken db w) }

@@ -131,12 +131,12 @@ abbrev pub with_value : Text → VarType → Result Slot FaultKind → Result Va
 with_value name t (Ok s) = Ok (record { name = name; type = t; value = s })
 with_value name t (Err e) = Err e
 
-abbrev pub variable_by : Text → Input → Option VarType → Result Variable FaultKind
-variable_by name given (Some t) = with_value name t (input_value t given)
-variable_by name given None = Err fault.WrongType
+abbrev pub typed_variable : Text → Input → Option VarType → Result Variable FaultKind
+typed_variable name given (Some t) = with_value name t (input_value t given)
+typed_variable name given None = Err fault.WrongType
 
 abbrev pub variable_of : Members → VarDef → Result Variable FaultKind
-variable_of values x = variable_by x.name (counted (get_member x.name values) x.default) (type_of x.kind)
+variable_of values x = typed_variable x.name (counted (get_member x.name values) x.default) (type_of x.kind)
 
 -- ---- the values that a literal or a variable stands for, where it may stand; else null
 

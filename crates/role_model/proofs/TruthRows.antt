@@ -1,5 +1,5 @@
 -- Worked rows of the truth of a condition: one row, whose first column is 1 and whose second is null.
-use Rattle.std.proofs.Common.{◌≡◌, List, [], ◌∷◌, true, false, pos, refl}
+use Rattle.std.proofs.Common.{◌≡◌, List, [], ◌∷◌, true, false, pos}
 use Rattle.scalar_val.specs.declared.val.Val.{Val}
 use Rattle.scalar_val.specs.declared.val.Val.TheVariants as val
 use Rattle.role_model.specs.declared.filter.Binding.{Binding}

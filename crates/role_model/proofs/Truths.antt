@@ -9,7 +9,6 @@ use Rattle.role_model.specs.declared.filter.Filter.TheFolds.{fold-roll-Filter}
 use Rattle.role_model.specs.declared.filter.Items.{Items}
 use Rattle.role_model.specs.declared.filter.Op.{Op}
 use Rattle.role_model.specs.declared.filter.Operand.{Operand}
-use Rattle.role_model.specs.declared.filter.TruthValue.{TruthValue}
 use Rattle.role_model.specs.Truth.{Meaning, truth_of, truth_step, all_of, any_of, negated, negated_if, compared, among, null_as_wanted, value_at, operand_value, item_values}
 
 pub truth_of-And : (b : Binding) (parts : List Filter) (row : List Val) → truth_of b (filter.And parts) row ≡ all_of (map (λ part. part row) (map (truth_of b) parts))

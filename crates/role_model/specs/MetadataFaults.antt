@@ -1,6 +1,6 @@
 -- What is wrong with metadata that has the right keys, and what it says where nothing is wrong. Names are those of
 -- GraphQL October 2021; the rest is this project's own.
-use Rattle.std.specs.Prelude.{◌≡◌, ℕ, ◌+◌, zero, ℤ, pos, Bool, true, false, not, ◌&&◌, ◌||◌, ◌∷◌, [], ◌++◌, List, length, if◌then◌else◌, nat_eq, nat_lt, nat_le, ◌==◌, is_some, is_none, unwrap_or, Option, Some, None, option_map, option_and_then, Result, Ok, Err, codes, map, position, find}
+use Rattle.std.specs.Prelude.{ℕ, pos, Bool, true, false, not, ◌&&◌, ◌||◌, ◌∷◌, [], ◌++◌, List, length, if◌then◌else◌, nat_eq, nat_lt, ◌==◌, is_none, unwrap_or, Option, Some, None, option_map, option_and_then, Result, Ok, Err, codes, map, position, find}
 use Rattle.std.specs.List.{list_any, list_all, flat_map, filter_map, enumerate_from, starts_with}
 use Rattle.std.specs.Str.{bytes_eq, is_utf8}
 use Rattle.std.specs.Ordering.{int_eq}
@@ -14,7 +14,6 @@ use Rattle.scalar_val.specs.declared.val.Kind.{Kind}
 use Rattle.scalar_val.specs.declared.val.Kind.TheVariants as kind
 use Rattle.data_model.specs.declared.catalog.Column.{Column}
 use Rattle.data_model.specs.declared.catalog.TableDef.{TableDef}
-use Rattle.data_model.specs.declared.catalog.Catalog.{Catalog}
 use Rattle.role_model.specs.declared.metadata.Document.{Document}
 use Rattle.role_model.specs.declared.metadata.TableEntry.{TableEntry}
 use Rattle.role_model.specs.declared.metadata.LinkEntry.{LinkEntry}

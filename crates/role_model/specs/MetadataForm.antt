@@ -1,6 +1,6 @@
 -- The keys of metadata in TOML 1.1, the forms of their values, and the defaults of those that may be left out. This
 -- project's own.
-use Rattle.std.specs.Prelude.{ℕ, ◌^◌, ◌-◌, ℤ, pos, Bool, true, false, ◌&&◌, List, [], ◌∷◌, if◌then◌else◌, int_le, is_some, unwrap_or, Option, Some, None, option_map, option_and_then, codes}
+use Rattle.std.specs.Prelude.{ℕ, ℤ, pos, Bool, true, false, ◌&&◌, List, [], ◌∷◌, if◌then◌else◌, int_le, is_some, unwrap_or, Option, Some, None, option_map, option_and_then, codes}
 use Rattle.std.specs.List.{list_any}
 use Rattle.std.specs.Str.{bytes_eq}
 use Rattle.toml.specs.Data.{Data, Items, no_items, item, Members, no_members, member, get_member, as_str, as_bool, as_integer, as_array, as_table}

@@ -1,6 +1,6 @@
 -- What a role sees of the tables, by its permissions. The role `admin` sees all. The rules are Hasura's; that a
 -- relationship is seen where its table is, is this project's own.
-use Rattle.std.specs.Prelude.{ℕ, Bool, true, false, ◌&&◌, ◌||◌, ◌==◌, List, [], if◌then◌else◌, is_some, nat_lt, nat_le, length, Option, Some, None, option_map, option_and_then, codes, slice_get, position, find}
+use Rattle.std.specs.Prelude.{ℕ, Bool, false, ◌&&◌, ◌||◌, ◌==◌, List, [], if◌then◌else◌, is_some, nat_lt, length, Option, Some, None, option_map, option_and_then, codes, slice_get, position, find}
 use Rattle.std.specs.List.{list_any, list_all}
 use Rattle.std.specs.Str.{bytes_eq}
 use Rattle.data_model.specs.declared.catalog.TableDef.{TableDef}
@@ -89,7 +89,3 @@ names_by None = []
 
 abbrev pub session_name_seen : View → ℕ → Option Text
 session_name_seen v slot = slice_get (names_by (role_of v)) slot
-
--- at most 256 tables of at most 64 columns
-abbrev pub is_small : Metadata → Bool
-is_small m = nat_le (length m.catalog.tables) 256 && list_all (λ (t : TableDef). nat_le (length t.columns) 64) m.catalog.tables

@@ -1,9 +1,8 @@
 -- Who a connection acts for, by the headers that it sends. The headers are Hasura's; the rules for secrets, for the
 -- unauthorized role and for repeated headers are this project's own.
-use Rattle.std.specs.Prelude.{ℕ, Bool, true, false, not, ◌&&◌, List, [], ◌∷◌, if◌then◌else◌, unwrap_or, Option, Some, None, option_map, option_and_then, codes, filter, nat_eq}
+use Rattle.std.specs.Prelude.{Bool, true, false, not, ◌&&◌, [], if◌then◌else◌, unwrap_or, Option, Some, None, option_and_then, codes, filter}
 use Rattle.std.specs.Str.{bytes_eq, str_to_ascii_lowercase}
-use Rattle.std.specs.List.{starts_with}
-use Rattle.serde_json.specs.Data.{Data, null, boolean, number, string, array, object, Members, no_members, member}
+use Rattle.serde_json.specs.Data.{Data, string, Members, no_members, member}
 use Rattle.serde_json.specs.Find.{get, as_object}
 use Rattle.role_model.specs.declared.session.Identity.{Identity}
 use Rattle.role_model.specs.declared.session.Identity.TheVariants.{Allowed, Forbidden}

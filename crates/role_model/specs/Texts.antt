@@ -1,4 +1,4 @@
--- A map from texts to texts, as the list of its names and values in ascending order of the names' bytes.
+-- A map from texts to texts, as the list of its names and values in ascending order of the names' bytes. This project's own.
 use Rattle.std.specs.Prelude.{ℕ, List, [], ◌∷◌, Option, Some, None}
 use Rattle.std.specs.Ordering.{nat_cmp, match_ordering}
 use Rattle.std.specs.Cmp.Lexicographic.{slice_cmp}

@@ -1,5 +1,5 @@
 use Rattle.std.proofs.Common.{sym, ◌∙◌, ap}
-use Rattle.role_model.specs.Texts.{Texts, value_of}
+use Rattle.role_model.specs.Texts.{value_of}
 use Rattle.role_model.proofs.StrMaps.{value_of-shown}
 use Rattle.role_model.proofs.str_map.StrMap.get.Goals as goal
 

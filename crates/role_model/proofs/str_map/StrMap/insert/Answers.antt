@@ -1,5 +1,5 @@
 use Rattle.std.proofs.Common.{sym, ◌∙◌, ap, string_bytes}
-use Rattle.role_model.specs.Texts.{Texts, with_value}
+use Rattle.role_model.specs.Texts.{with_value}
 use Rattle.role_model.proofs.StrMaps.{shown, with_value-shown}
 use Rattle.role_model.proofs.str_map.StrMap.insert.Goals as goal
 
