@@ -3,7 +3,7 @@ use Rattle.std.proofs.Common.{◌≡◌, ◌∙◌, ◌<◌, ◌≤◌, ◌+◌,
 use Rattle.std.specs.List.{list_any, flat_map, position_or_len}
 use Rattle.std.specs.Str.{bytes_eq}
 use Rattle.std.proofs.lemmas.List.{map-append}
-use Rattle.gql_flat.proofs.OrderRules.{from_place}
+use Rattle.gql_canon.proofs.OrderRules.{from_place}
 use Rattle.request_model.specs.declared.document.Directive.{Directive}
 use Rattle.request_model.specs.declared.document.GPair.{GPair}
 use Rattle.request_model.specs.declared.document.Selection.{Selection}

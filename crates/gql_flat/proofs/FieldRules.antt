@@ -11,7 +11,7 @@ use Rattle.request_model.proofs.SelectionRules.{fold-field}
 use Rattle.std.specs.List.{list_any}
 use Rattle.gql_flat.specs.declared.fields.Tally.{Tally}
 use Rattle.gql_flat.specs.Fields.{field_down, GroupConflicts, Conflicts, AreFields, AreTooLarge, FailsSo, IsCounted}
-use Rattle.gql_flat.proofs.OrderRules.{from_place, up_to_place}
+use Rattle.gql_canon.proofs.OrderRules.{from_place, up_to_place}
 
 -- ---- some of a list
 

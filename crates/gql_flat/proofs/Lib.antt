@@ -1,10 +1,4 @@
 pub mod CollectRules
 pub mod FieldRules
-pub mod GraphRules
 pub mod HeightRules
-pub mod OrderRules
-pub mod PartRules
-pub mod PlaceRules
-pub mod ReachRules
-pub mod TruthRules
 pub mod WholeRules

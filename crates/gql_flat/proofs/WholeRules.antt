@@ -16,10 +16,10 @@ use Rattle.gql_flat.specs.declared.flattening.Whole.{Whole}
 use Rattle.request_model.specs.Selection.{repeats, Fragment, operations, chosen, Flattens, refused, flattened, Scope, Operation, Group, collected, fields_seen, is_large, levels, size, most_levels, most_fields, FieldsConflict, HasFault, fault_order, IsFirst, served, scope, shares_name, flat_of}
 use Rattle.gql_flat.specs.declared.fields.Tally.{Tally}
 use Rattle.gql_flat.specs.Fields.{AreFields, AreTooLarge, Conflicts, field_down, FailsSo}
-use Rattle.gql_flat.specs.Refusals.{Refuses, refusals}
+use Rattle.gql_scope.specs.Refusals.{Refuses, refusals}
 use Rattle.gql_flat.specs.Whole.{IsWhole, OperationFlattens}
 use Rattle.gql_flat.proofs.FieldRules.{conflicts_are}
-use Rattle.gql_flat.proofs.TruthRules.{or_left, or_right}
+use Rattle.gql_scope.proofs.TruthRules.{or_left, or_right}
 
 -- ---- limits
 

@@ -1,10 +1,2 @@
 pub mod Fields
-pub mod Graph
-pub mod Names
-pub mod Parts
-pub mod Places
-pub mod Refusals
-pub mod Scopes
-pub mod Texts
-pub mod Walks
 pub mod Whole

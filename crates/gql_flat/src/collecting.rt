@@ -5,11 +5,9 @@ ghost use Rattle.std.specs.List.{list_any, position_or_len, flat_map};
 ghost use Rattle.std.specs.Option.{option_copied};
 ghost use Rattle.std.specs.Str.{bytes_eq};
 ghost use Rattle.request_model.specs.Selection as spec;
-ghost use Rattle.gql_flat.specs.Scopes.{scope_of};
+ghost use Rattle.gql_scope.specs.Scopes.{scope_of};
 
-use crate::names::Names;
-use crate::operation::{Fragment, same};
-use crate::scope::Scope;
+use gql_scope::{Fragment, Names, Scope, same};
 use request_model::{Directive, GPair, Selection};
 use scalar_val::{NoMemory, Str};
 use std::alloc::Global;
@@ -127,20 +125,13 @@ fn add_field<'a>(
     Ok(())
 }
 
-#[tactic(auto, using(crate::proofs::PlaceRules::among))]
-fn is_visited(visited: &Names<'_>, name: &str) -> bool
-    ensures { result ≡ list_any (bytes_eq name.now) visited.now }
-{
-    visited.place(name).is_some()
-}
-
 /// Whether the fragment is met for the first time; then it is noted with its type condition.
 fn visit<'a>(fragment: &Fragment<'a>, found: &mut Object<'a>) -> Result<bool, NoMemory>
     ensures { IfOk result (λ first. MatchBool first
         ((list_any (bytes_eq fragment.now.name) found.old.visited ≡ false) × (found.new ≡ spec.noted fragment.now.on (spec.with_visited fragment.now.name found.old)))
         ((list_any (bytes_eq fragment.now.name) found.old.visited ≡ true) × (found.new ≡ found.old))) }
 {
-    if is_visited(&found.visited, fragment.name.as_str()) {
+    if found.visited.contains(fragment.name.as_str()) {
         return Ok(false);
     }
     found.visited.push(fragment.name)?;

@@ -1,23 +1,14 @@
 //! Copies of what a flat selection takes over from a document.
 
-ghost use Rattle.std.specs.Prelude.{◌≡◌, ◌++◌, ◌∷◌, [], IfOk, OnOk};
+ghost use Rattle.std.specs.Prelude.{◌≡◌, IfOk};
 
+use gql_scope::add;
 use request_model::{
     Directive, DirectiveList, GPair, GPairs, GValue, GValueList, TypeRef, VarDef, VarDefList,
 };
 use scalar_val::{List, NoMemory, Str};
 use sqlite_items::Boxed;
 use std::alloc::Global;
-
-/// Adds an item at the end.
-pub fn add<T: Drop>(items: &mut List<T>, item: T) -> Result<(), NoMemory>
-    ensures { OnOk result (items.new ≡ items.old ++ item ∷ []) }
-{
-    match items.push(item) {
-        Ok(()) => Ok(()),
-        Err(_refused) => Err(NoMemory),
-    }
-}
 
 pub fn copy_str(alloc: Global, text: &Str) -> Result<Str, NoMemory>
     ensures { IfOk result (λ copy. copy ≡ text.now) }

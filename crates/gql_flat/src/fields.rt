@@ -4,14 +4,13 @@ ghost use Rattle.std.specs.Prelude.{◌≡◌, ◌≤◌, ◌<◌, ◌+◌, ◌�
 ghost use Rattle.std.specs.List.{list_any};
 ghost use Rattle.request_model.specs.Selection as spec;
 ghost use Rattle.request_model.specs.declared.flat.FlatField.TheViews.{roll-FlatField};
-ghost use Rattle.gql_flat.specs.Scopes.{scope_of};
+ghost use Rattle.gql_scope.specs.Scopes.{scope_of};
 ghost use Rattle.gql_flat.specs.Fields.{AreFields, AreTooLarge, FailsSo, IsCounted};
 
 use crate::collecting::{Group, Selected, collected_inside, conditions_of, groups_of};
-use crate::copies::{add, copy_pairs, copy_str};
-use crate::operation::same;
-use crate::same::same_args;
-use crate::scope::Scope;
+use crate::copies::{copy_pairs, copy_str};
+use gql_canon::same_args;
+use gql_scope::{Scope, add, same};
 use request_model::{FlatFault, FlatField, FlatFieldList, StrList};
 use scalar_val::{List, NoMemory, Str};
 use std::alloc::Global;

@@ -8,16 +8,15 @@ ghost use Rattle.serde_json.specs.View.{view};
 ghost use Rattle.request_model.specs.Selection as spec;
 ghost use Rattle.gql_flat.specs.Fields.{FailsSo};
 ghost use Rattle.request_model.specs.Selection.{given_values};
-ghost use Rattle.gql_flat.specs.Scopes.{scope_of};
+ghost use Rattle.gql_scope.specs.Scopes.{scope_of};
 ghost use Rattle.gql_flat.specs.Whole.{IsWhole, OperationFlattens};
 
 use crate::collecting::{collected, conditions_of, groups_of};
 use crate::copies::copy_variables;
 use crate::fields::{Tally, copy_texts, fields};
-use crate::fragments::Fragments;
-use crate::operation::{Fragment, Operation, chosen, fragments_of, operations_of, same};
-use crate::refusals::first_refusal;
-use crate::scope::Scope;
+use gql_scope::{
+    Fragment, Fragments, Operation, Scope, chosen, first_refusal, fragments_of, operations_of, same,
+};
 use json_out::Request;
 use request_model::{Document, Flat, FlatFault, FlatFieldList, OpWord, StrList, VarDef, Word};
 use scalar_val::{NoMemory, Str};

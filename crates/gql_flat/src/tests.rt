@@ -1,4 +1,4 @@
-use crate::canonical::canon;
+use crate::canon;
 use crate::flattening::flatten;
 use gql_ast::parse;
 use gql_lex::tokens;

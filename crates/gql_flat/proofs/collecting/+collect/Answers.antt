@@ -3,10 +3,10 @@ use Rattle.std.proofs.lemmas.Result.{on_ok_weaker}
 use Rattle.request_model.specs.Selection.{Fragment, collecting, spreading}
 use denote.Param.Weighed.{most}
 use Rattle.request_model.proofs.document.Selection.TheLaws.{the_size}
-use Rattle.gql_flat.specs.Scopes.{scope_of}
+use Rattle.gql_scope.specs.Scopes.{scope_of}
 use Rattle.gql_flat.proofs.CollectRules.{enters}
 use Rattle.gql_flat.proofs.HeightRules.{room, spread_falls}
-use Rattle.gql_flat.proofs.TruthRules.{at_true}
+use Rattle.gql_scope.proofs.TruthRules.{at_true}
 use Rattle.gql_flat.proofs.collecting.+collect.Goals as goal
 
 pub spread-collect-requires : goal.spread-collect-requires

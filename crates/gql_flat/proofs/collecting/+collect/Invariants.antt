@@ -3,7 +3,7 @@ use denote.Param.Weighed.{most}
 use Rattle.request_model.proofs.document.Selection.TheLaws.{the_size}
 use Rattle.gql_flat.proofs.HeightRules.{room}
 use Rattle.request_model.specs.Selection.{collecting, spreading}
-use Rattle.gql_flat.specs.Scopes.{scope_of}
+use Rattle.gql_scope.specs.Scopes.{scope_of}
 use Rattle.gql_flat.proofs.collecting.+collect.Given as goal
 
 -- what is left adds the rest

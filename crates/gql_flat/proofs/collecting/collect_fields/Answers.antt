@@ -1,5 +1,5 @@
 use Rattle.request_model.specs.Selection.{spreading}
-use Rattle.gql_flat.specs.Scopes.{scope_of}
+use Rattle.gql_scope.specs.Scopes.{scope_of}
 use Rattle.gql_flat.proofs.CollectRules.{field_more}
 use Rattle.gql_flat.proofs.collecting.collect_fields.Goals as goal
 

@@ -1,7 +1,7 @@
 use Rattle.std.proofs.Common.{◌≡◌, ◌∙◌, ◌+◌, ◌-◌, [], ◌∷◌, inr, refl, sym, ap, subst, arith}
 use Rattle.request_model.specs.Selection.{Collected}
 use Rattle.gql_flat.specs.Fields.{AreFields, AreTooLarge}
-use Rattle.gql_flat.specs.Scopes.{scope_of}
+use Rattle.gql_scope.specs.Scopes.{scope_of}
 use Rattle.gql_flat.proofs.FieldRules.{one, large_inside, no_level, large, more, fails_weaker, not_nil}
 use Rattle.gql_flat.proofs.fields.+field.Goals as goal
 

@@ -1,6 +1,6 @@
 use Rattle.std.proofs.Common.{◌+◌, ◌*◌, take}
 use Rattle.gql_flat.specs.Fields.{AreFields}
-use Rattle.gql_flat.specs.Scopes.{scope_of}
+use Rattle.gql_scope.specs.Scopes.{scope_of}
 use Rattle.gql_flat.proofs.fields.+field.Given as goal
 
 -- the fields so far are those of the groups that are passed

@@ -1,7 +1,7 @@
 use Rattle.std.proofs.Common.{refl}
 use Rattle.request_model.specs.Selection.{Differ}
 use Rattle.gql_flat.proofs.FieldRules.{some_here, some_later}
-use Rattle.gql_flat.proofs.ReachRules.{not_so}
+use Rattle.gql_scope.proofs.ReachRules.{not_so}
 use Rattle.gql_flat.proofs.fields.some_differ.Goals as goal
 
 pub returns-then-found : goal.returns-then-found

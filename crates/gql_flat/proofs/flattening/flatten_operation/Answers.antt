@@ -1,9 +1,9 @@
 use Rattle.std.proofs.Common.{◌∙◌, inl, inr, sym}
 use Rattle.serde_json.specs.View.{view}
 use Rattle.request_model.specs.Selection.{given_values}
-use Rattle.gql_flat.specs.Scopes.{scope_of}
-use Rattle.gql_flat.proofs.ReachRules.{not_so}
-use Rattle.gql_flat.proofs.TruthRules.{at_some, at_none}
+use Rattle.gql_scope.specs.Scopes.{scope_of}
+use Rattle.gql_scope.proofs.ReachRules.{not_so}
+use Rattle.gql_scope.proofs.TruthRules.{at_some, at_none}
 use Rattle.gql_flat.proofs.WholeRules.{refused_first, fails_whole, conflict_first, field_conflict, no_fault, shares_is, flat_is}
 use Rattle.gql_flat.proofs.flattening.flatten_operation.Goals as goal
 

@@ -1,0 +1,5 @@
+pub mod GraphRules
+pub mod PartRules
+pub mod PlaceRules
+pub mod ReachRules
+pub mod TruthRules
