@@ -231,6 +231,23 @@ taken_out t rows at d key fits within =
     ∙ without (stands t.unique (remove rows at) key) (list_any (is_key key) own)
       (none_at (stands t.unique (remove rows at)) own key (standing t (remove rows at) r ∙ alone t rows at d fits within))
 
+-- a row with the same keys in the place of another
+pub same_keys_stand : (columns : List ℕ) (rows : Rows) (at : ℕ) (row cells : Row) (key : UniqueKey) → at < length rows → row ≡ get_or rows at row → keys_at columns row ≡ keys_at columns cells → stands columns rows key ≡ stands columns (slice_set rows at cells) key
+same_keys_stand columns rows at row cells key within is same =
+    let whole : rows ≡ insert (remove rows at) at (get_or rows at row) = sym (set-get_or rows at row) ∙ set_as rows at (get_or rows at row) within in
+    ap (λ rows. stands columns rows key) whole
+    ∙ stands_with columns (remove rows at) at (get_or rows at row) key
+    ∙ ap (λ keys. stands columns (remove rows at) key || list_any (is_key key) keys) (ap (keys_at columns) (sym is) ∙ same)
+    ∙ sym (stands_with columns (remove rows at) at cells key)
+    ∙ ap (λ rows. stands columns rows key) (sym (set_as rows at cells within))
+
+pub same_keys_apart : (t : TableDef) (rows : Rows) (at : ℕ) (row cells : Row) → FitsTable t rows → at < length rows → row ≡ get_or rows at row → keys_at t.unique row ≡ keys_at t.unique cells → list_any (clash t cells) (remove rows at) ≡ false
+same_keys_apart t rows at row cells fits within is same =
+    sym (standing t (remove rows at) cells)
+    ∙ ap (list_any (stands t.unique (remove rows at))) (sym same ∙ ap (keys_at t.unique) is)
+    ∙ standing t (remove rows at) (get_or rows at row)
+    ∙ alone t rows at row fits within
+
 -- a key that is put into a set, and one that is taken out
 put_one : (old y h : Bool) → cond h true (old || y) ≡ (old || (y || (h || false)))
 put_one true y true = refl

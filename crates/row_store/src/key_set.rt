@@ -1,7 +1,8 @@
-ghost use Rattle.std.specs.Prelude.{◌≡◌, ◌&&◌, ◌||◌, not, ◌++◌, IfOk, OnOk};
+ghost use Rattle.std.specs.Prelude.{◌≡◌, true, ◌&&◌, ◌||◌, not, ◌++◌, IfOk, OnOk};
 ghost use Rattle.std.specs.Ordering.{is_eq};
 ghost use Rattle.std.specs.List.{list_any};
 ghost use Rattle.std.specs.BTreeSet.{contains};
+ghost use Rattle.data_model.specs.Rows.{cell};
 ghost use Rattle.row_store.specs.declared.unique_key.UniqueKey.{UniqueKey};
 ghost use Rattle.row_store.specs.UniqueKeys.{key_order, has_value, keys_at, value_keys};
 
@@ -99,4 +100,32 @@ pub(crate) fn any_taken_by_another(set: &BTreeSet<UniqueKey>, keys: &[UniqueKey]
         }
     }
     false
+}
+
+fn is_same(a: &Val, b: &Val) -> bool
+    ensures { result ≡ true → a.now ≡ b.now }
+{
+    match cmp(a, b) {
+        Ordering::Equal => true,
+        _ => false,
+    }
+}
+
+fn is_same_at(a: &[Val], b: &[Val], column: u32) -> bool
+    ensures { result ≡ true → cell a.now column ≡ cell b.now column }
+{
+    let null = Val::Null;
+    is_same(cell(a, column, &null), cell(b, column, &null))
+}
+
+/// Whether two rows have the same values in the columns, and so the same keys.
+pub(crate) fn has_same_keys(columns: &[u32], a: &[Val], b: &[Val]) -> bool
+    ensures { result ≡ true → keys_at columns.now a.now ≡ keys_at columns.now b.now }
+{
+    for column in columns {
+        if !is_same_at(a, b, *column) {
+            return false;
+        }
+    }
+    true
 }

@@ -84,6 +84,24 @@ pub(crate) fn insert_into<L: Ledger>(
     }
 }
 
+fn sets_unique(table: &TableDef, set: &[SetCell]) -> bool {
+    for cell in set {
+        if table.unique.as_slice().contains(&cell.column) {
+            return true;
+        }
+    }
+    false
+}
+
+/// Makes the index where an update needs it.
+fn make_index_for(alloc: Global, table: &TableDef, rows: &mut Arc<Table>, set: &[SetCell])
+    ensures { arc_value rows.new ≡ arc_value rows.old }
+{
+    if sets_unique(table, set) {
+        make_index(alloc, table, rows);
+    }
+}
+
 /// A row and the place where it belongs.
 struct Placed {
     at: usize,
@@ -138,7 +156,7 @@ pub(crate) fn update_in<L: Ledger>(
     ensures fits { FitsTable table.now (arc_value rows.new) }
     ensures steps { steps.new ≤ steps.old + length (arc_value rows.old) + 1 }
 {
-    make_index(alloc, table, rows);
+    make_index_for(alloc, table, rows, set);
     match updated_row(alloc, table, rows, key, set, steps)? {
         Ok(placed) => {
             let Placed { at, row } = placed;

@@ -4,7 +4,7 @@ ghost use Rattle.data_model.specs.Rows.{Rows, FitsTable, clash};
 ghost use Rattle.row_store.specs.Taken.{StandsFor};
 
 use crate::finding::{clashes, clashes_elsewhere};
-use crate::key_set::{any_taken, any_taken_by_another, keys_of, put_keys, take_keys};
+use crate::key_set::{any_taken, any_taken_by_another, has_same_keys, keys_of, put_keys, take_keys};
 use crate::row::Row;
 use crate::unique_key::UniqueKey;
 use data_model::{ColumnList, TableDef};
@@ -135,7 +135,11 @@ pub(crate) fn after_update(
     requires stands { IfSome taken (StandsFor rows.now) }
     ensures { IfSome result (StandsFor (slice_set rows.now at cells.now)) }
 {
-    let rest = after_delete(alloc, table, taken, rows, at)?;
+    let taken = taken?;
+    if has_same_keys(taken.columns.as_slice(), rows[at].cells(), cells) {
+        return Some(taken);
+    }
+    let rest = after_delete(alloc, table, Some(taken), rows, at)?;
     grown_or_none(alloc, rest, cells)
 }
 
@@ -213,6 +217,9 @@ pub(crate) fn clashes_elsewhere_by(
     requires stands { IfSome taken.now (StandsFor rows.now) }
     ensures { result ≡ list_any (clash table.now cells.now) (remove rows.now at) }
 {
+    if has_same_keys(table.unique.as_slice(), rows[at].cells(), cells) {
+        return false;
+    }
     let Some(taken) = taken else {
         return clashes_elsewhere(table, cells, rows, at);
     };
