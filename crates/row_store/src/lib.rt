@@ -4,6 +4,8 @@
 mod changes;
 mod copying;
 mod finding;
+#[cfg(test)]
+mod index_tests;
 mod key_set;
 mod row;
 mod sharing;
