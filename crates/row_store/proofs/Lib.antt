@@ -1,3 +1,4 @@
 pub mod SearchSteps
 pub mod TableSteps
+pub mod TakenLaws
 pub mod Examples

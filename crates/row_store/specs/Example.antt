@@ -12,3 +12,10 @@ name_column = record { name = codes "name"; kind = kind.Text; nullable = true }
 
 abbrev pub users : List TableDef
 users = record { name = codes "user"; columns = id_column ∷ name_column ∷ []; key = 0 ∷ []; unique = 1 ∷ []; max_rows = 2 } ∷ []
+
+-- members have a name and a badge, each unique or null, and there may be three
+abbrev pub badge_column : Column
+badge_column = record { name = codes "badge"; kind = kind.Int; nullable = true }
+
+abbrev pub members : List TableDef
+members = record { name = codes "member"; columns = id_column ∷ name_column ∷ badge_column ∷ []; key = 0 ∷ []; unique = 1 ∷ 2 ∷ []; max_rows = 3 } ∷ []

@@ -5,8 +5,8 @@ ghost use Rattle.data_model.specs.Rows.{FitAll, row_fits, may_stand, inserted, u
 ghost use Rattle.row_store.specs.Held.{def_at, rows_in};
 ghost use Rattle.row_store.specs.Stored.{reason_of, after};
 
-use crate::row::Row;
 use crate::stored::Stored;
+use crate::table::Table;
 use crate::tables::{delete_from, insert_into, update_in};
 use data_model::{SetCell, TableDef};
 use scalar_val::{List, NoMemory, Steps, Val};
@@ -25,7 +25,7 @@ fn def_of(defs: &[TableDef], at: usize) -> &TableDef
 pub(crate) fn insert_at<L: Ledger>(
     alloc: Global,
     defs: &[TableDef],
-    tables: &mut [Arc<List<Row>>],
+    tables: &mut [Arc<Table>],
     at: usize,
     cells: List<Val>,
     steps: &mut Steps<L>,
@@ -46,7 +46,7 @@ pub(crate) fn insert_at<L: Ledger>(
 pub(crate) fn update_at<L: Ledger>(
     alloc: Global,
     defs: &[TableDef],
-    tables: &mut [Arc<List<Row>>],
+    tables: &mut [Arc<Table>],
     at: usize,
     key: &[Val],
     set: &[SetCell],
@@ -68,7 +68,7 @@ pub(crate) fn update_at<L: Ledger>(
 pub(crate) fn delete_at<L: Ledger>(
     alloc: Global,
     defs: &[TableDef],
-    tables: &mut [Arc<List<Row>>],
+    tables: &mut [Arc<Table>],
     at: usize,
     key: &[Val],
     steps: &mut Steps<L>,

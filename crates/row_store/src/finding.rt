@@ -1,6 +1,6 @@
 ghost use Rattle.std.specs.Prelude.{◌≡◌, ℕ, ◌<◌, ◌≤◌, true, false, not, ◌&&◌, map, length, take, slice_index_or, IfOk, IfErr};
 ghost use Rattle.std.specs.Ordering.{is_eq};
-ghost use Rattle.std.specs.List.{All, list_any};
+ghost use Rattle.std.specs.List.{All, list_any, remove};
 ghost use Rattle.scalar_val.specs.declared.val.Val.{Val};
 ghost use Rattle.scalar_val.specs.ValOrder.{val_cmp};
 ghost use Rattle.data_model.specs.Rows.{Row, Ascends, cell, key_of, key_cmp, is_below, has_key, is_null, alike_at, clash};
@@ -12,7 +12,7 @@ use scalar_val::{Val, cmp};
 use std::cmp::Ordering;
 
 /// The value in a column, and null past the row's end.
-fn cell<'a>(row: &'a [Val], column: u32, null: &'a Val) -> &'a Val
+pub(crate) fn cell<'a>(row: &'a [Val], column: u32, null: &'a Val) -> &'a Val
     requires { null.now ≡ Val.Null }
     ensures { result.now ≡ cell row.now column }
 {
@@ -107,7 +107,7 @@ pub(crate) fn find_row(table: &TableDef, rows: &[Row], key: &[Val]) -> Result<us
     }
 }
 
-fn is_null(value: &Val) -> bool
+pub(crate) fn is_null(value: &Val) -> bool
     ensures { result ≡ is_null value.now }
 {
     match value {
@@ -160,4 +160,15 @@ pub(crate) fn clashes(table: &TableDef, cells: &[Val], rows: &[Row]) -> bool
         }
     }
     false
+}
+
+/// Whether values clash with a row other than the one at a place.
+pub(crate) fn clashes_elsewhere(table: &TableDef, cells: &[Val], rows: &[Row], at: usize) -> bool
+    requires { at < length rows.now }
+    ensures { result ≡ list_any (clash table.now cells.now) (remove rows.now at) }
+{
+    if clashes(table, cells, &rows[..at]) {
+        return true;
+    }
+    clashes(table, cells, &rows[at + 1..])
 }

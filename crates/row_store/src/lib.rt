@@ -4,13 +4,19 @@
 mod changes;
 mod copying;
 mod finding;
+#[cfg(test)]
+mod index_tests;
+mod key_set;
 mod row;
 mod sharing;
 mod snapshot;
 mod stored;
+mod table;
 mod tables;
+mod taken;
 #[cfg(test)]
 mod tests;
+mod unique_key;
 
 pub use row::{Row, copy_row};
 pub use snapshot::{Scan, Snapshot, ValList};

@@ -11,6 +11,7 @@ use crate::changes::{delete_at, insert_at, update_at};
 use crate::copying::copy_catalog;
 use crate::row::Row;
 use crate::stored::Stored;
+use crate::table::Table;
 use crate::tables::rows_of;
 use data_model::{Catalog, SetCell, TableDef};
 use scalar_val::{List, NoMemory, Steps, Val};
@@ -27,7 +28,7 @@ pub type ValList = List<Val>;
 #[derive(Drop)]
 pub struct Snapshot {
     catalog: Arc<Catalog>,
-    tables: Vec<Arc<List<Row>>>,
+    tables: Vec<Arc<Table>>,
 }
 
 impl Model for Snapshot {
@@ -72,7 +73,7 @@ impl<'a> Scan<'a> {
     }
 }
 
-fn share_tables(alloc: Global, tables: &[Arc<List<Row>>]) -> Result<Vec<Arc<List<Row>>>, NoMemory>
+fn share_tables(alloc: Global, tables: &[Arc<Table>]) -> Result<Vec<Arc<Table>>, NoMemory>
     ensures { IfOk result (λ shares. map (λ rows. arc_value rows) shares.items ≡ map (λ rows. arc_value rows) tables.now) }
 {
     let mut shares = Vec::with_capacity(alloc, tables.len())?;
@@ -82,12 +83,12 @@ fn share_tables(alloc: Global, tables: &[Arc<List<Row>>]) -> Result<Vec<Arc<List
     Ok(shares)
 }
 
-fn empty_tables(alloc: Global, tables: &[TableDef]) -> Result<Vec<Arc<List<Row>>>, NoMemory>
+fn empty_tables(alloc: Global, tables: &[TableDef]) -> Result<Vec<Arc<Table>>, NoMemory>
     ensures { IfOk result (λ made. map (λ rows. arc_value rows) made.items ≡ map (λ (t : TableDef). []) tables.now) }
 {
     let mut made = Vec::with_capacity(alloc, tables.len())?;
     for _table in tables {
-        made.push(Arc::new(alloc, List::new(alloc))?)?;
+        made.push(Arc::new(alloc, Table::of(List::new(alloc)))?)?;
     }
     Ok(made)
 }

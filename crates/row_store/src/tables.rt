@@ -6,10 +6,11 @@ ghost use Rattle.data_model.specs.Places.{IsFree, IsHeld};
 ghost use Rattle.row_store.specs.Stored.{reason_of, after};
 
 use crate::copying::key_of;
-use crate::finding::{clashes, find_row};
+use crate::finding::find_row;
 use crate::row::{Row, with_cells};
-use crate::sharing::{insert_row, remove_row, set_row};
+use crate::sharing::{insert_row, make_index, remove_row, set_row};
 use crate::stored::Stored;
+use crate::table::Table;
 use data_model::{SetCell, TableDef};
 use scalar_val::{List, NoMemory, Steps, Val};
 use std::alloc::Global;
@@ -17,15 +18,21 @@ use std::sync::Arc;
 use std::sync::ledger::Ledger;
 
 /// The rows that an owner shares.
-pub(crate) fn rows_of(rows: &Arc<List<Row>>) -> &[Row]
+pub(crate) fn rows_of(rows: &Arc<Table>) -> &[Row]
     ensures { result.now ≡ arc_value rows.now }
 {
-    let list: &List<Row> = rows;
-    list.as_slice()
+    let table: &Table = rows;
+    table.as_slice()
 }
 
 /// The place for a new row, or the first reason against it.
-fn insert_place(table: &TableDef, rows: &[Row], cells: &[Val], key: &[Val]) -> Result<usize, Stored>
+fn insert_place(
+    alloc: Global,
+    table: &TableDef,
+    rows: &Table,
+    cells: &[Val],
+    key: &[Val],
+) -> Result<usize, Stored>
     requires fits { FitsTable table.now rows.now }
     requires row { IsTrue (row_fits table.now.columns cells.now) }
     requires key { key.now ≡ key_of table.now cells.now }
@@ -36,13 +43,14 @@ fn insert_place(table: &TableDef, rows: &[Row], cells: &[Val], key: &[Val]) -> R
     ensures refused { IfErr result (λ stored. reason_of stored ≡ first_reason (insert_tests table.now cells.now rows.now)) }
     ensures kept { IfErr result (λ stored. stored ≡ Stored.Done → ⊥) }
 {
-    match find_row(table, rows, key) {
+    let list = rows.as_slice();
+    match find_row(table, list, key) {
         Ok(_) => Err(Stored::KeyTaken),
         Err(at) => {
-            if clashes(table, cells, rows) {
+            if rows.clashes(alloc, table, cells) {
                 return Err(Stored::UniqueTaken);
             }
-            if rows.len() >= table.max_rows as usize {
+            if list.len() >= table.max_rows as usize {
                 return Err(Stored::TableFull);
             }
             Ok(at)
@@ -54,7 +62,7 @@ fn insert_place(table: &TableDef, rows: &[Row], cells: &[Val], key: &[Val]) -> R
 pub(crate) fn insert_into<L: Ledger>(
     alloc: Global,
     table: &TableDef,
-    rows: &mut Arc<List<Row>>,
+    rows: &mut Arc<Table>,
     cells: List<Val>,
     steps: &mut Steps<L>,
 ) -> Result<Stored, NoMemory>
@@ -66,7 +74,8 @@ pub(crate) fn insert_into<L: Ledger>(
     ensures steps { steps.new ≤ steps.old + length (arc_value rows.old) }
 {
     let key = key_of(alloc, table, cells.as_slice())?;
-    match insert_place(table, rows_of(rows), cells.as_slice(), key.as_slice()) {
+    make_index(alloc, table, rows);
+    match insert_place(alloc, table, rows, cells.as_slice(), key.as_slice()) {
         Ok(at) => {
             insert_row(alloc, rows, at, Row::of(cells), steps)?;
             Ok(Stored::Done)
@@ -75,15 +84,22 @@ pub(crate) fn insert_into<L: Ledger>(
     }
 }
 
-/// Whether values clash with a row other than the one at a place.
-fn clashes_elsewhere(table: &TableDef, cells: &[Val], rows: &[Row], at: usize) -> bool
-    requires { at < length rows.now }
-    ensures { result ≡ list_any (clash table.now cells.now) (remove rows.now at) }
-{
-    if clashes(table, cells, &rows[..at]) {
-        return true;
+fn sets_unique(table: &TableDef, set: &[SetCell]) -> bool {
+    for cell in set {
+        if table.unique.as_slice().contains(&cell.column) {
+            return true;
+        }
     }
-    clashes(table, cells, &rows[at + 1..])
+    false
+}
+
+/// Makes the index where an update needs it.
+fn make_index_for(alloc: Global, table: &TableDef, rows: &mut Arc<Table>, set: &[SetCell])
+    ensures { arc_value rows.new ≡ arc_value rows.old }
+{
+    if sets_unique(table, set) {
+        make_index(alloc, table, rows);
+    }
 }
 
 /// A row and the place where it belongs.
@@ -96,7 +112,7 @@ struct Placed {
 fn updated_row<L: Ledger>(
     alloc: Global,
     table: &TableDef,
-    rows: &[Row],
+    rows: &Table,
     key: &[Val],
     set: &[SetCell],
     steps: &mut Steps<L>,
@@ -111,11 +127,12 @@ fn updated_row<L: Ledger>(
     ensures kept { IfOk result (λ found. IfErr found (λ stored. stored ≡ Stored.Done → ⊥)) }
     ensures steps { steps.new ≤ steps.old + 1 }
 {
-    match find_row(table, rows, key) {
+    let list = rows.as_slice();
+    match find_row(table, list, key) {
         Err(_) => Ok(Err(Stored::NoRow)),
         Ok(at) => {
-            let row = with_cells(alloc, &rows[at], set, steps)?;
-            if clashes_elsewhere(table, row.cells(), rows, at) {
+            let row = with_cells(alloc, &list[at], set, steps)?;
+            if rows.clashes_elsewhere(alloc, table, at, row.cells()) {
                 return Ok(Err(Stored::UniqueTaken));
             }
             Ok(Ok(Placed { at, row }))
@@ -127,7 +144,7 @@ fn updated_row<L: Ledger>(
 pub(crate) fn update_in<L: Ledger>(
     alloc: Global,
     table: &TableDef,
-    rows: &mut Arc<List<Row>>,
+    rows: &mut Arc<Table>,
     key: &[Val],
     set: &[SetCell],
     steps: &mut Steps<L>,
@@ -139,10 +156,11 @@ pub(crate) fn update_in<L: Ledger>(
     ensures fits { FitsTable table.now (arc_value rows.new) }
     ensures steps { steps.new ≤ steps.old + length (arc_value rows.old) + 1 }
 {
-    match updated_row(alloc, table, rows_of(rows), key, set, steps)? {
+    make_index_for(alloc, table, rows, set);
+    match updated_row(alloc, table, rows, key, set, steps)? {
         Ok(placed) => {
             let Placed { at, row } = placed;
-            set_row(alloc, rows, at, row, steps)?;
+            set_row(alloc, table, rows, at, row, steps)?;
             Ok(Stored::Done)
         }
         Err(stored) => Ok(stored),
@@ -169,7 +187,7 @@ fn delete_place(table: &TableDef, rows: &[Row], key: &[Val]) -> Result<usize, St
 pub(crate) fn delete_from<L: Ledger>(
     alloc: Global,
     table: &TableDef,
-    rows: &mut Arc<List<Row>>,
+    rows: &mut Arc<Table>,
     key: &[Val],
     steps: &mut Steps<L>,
 ) -> Result<Stored, NoMemory>
@@ -181,7 +199,7 @@ pub(crate) fn delete_from<L: Ledger>(
 {
     match delete_place(table, rows_of(rows), key) {
         Ok(at) => {
-            remove_row(alloc, rows, at, steps)?;
+            remove_row(alloc, table, rows, at, steps)?;
             Ok(Stored::Done)
         }
         Err(stored) => Ok(stored),

@@ -10,7 +10,7 @@ use std::marker::Brand;
 use std::sync::ledger::{Blank, Ledger};
 use std::test::Fail;
 
-fn one<T: Drop>(alloc: Global, item: T) -> Result<List<T>, NoMemory>
+pub(crate) fn one<T: Drop>(alloc: Global, item: T) -> Result<List<T>, NoMemory>
     ensures { IfOk result (λ list. list ≡ item ∷ []) }
 {
     let mut list = List::new(alloc);
@@ -20,7 +20,7 @@ fn one<T: Drop>(alloc: Global, item: T) -> Result<List<T>, NoMemory>
     }
 }
 
-fn columns(alloc: Global) -> Result<List<Column>, NoMemory>
+pub(crate) fn columns(alloc: Global) -> Result<List<Column>, NoMemory>
     ensures { IfOk result (λ list. list ≡ id_column ∷ name_column ∷ []) }
 {
     let id = Column {
@@ -57,7 +57,7 @@ fn users(alloc: Global) -> Result<Catalog, NoMemory>
 }
 
 /// A name, and null for no letters.
-fn name_value(alloc: Global, name: &str) -> Result<Val, NoMemory>
+pub(crate) fn name_value(alloc: Global, name: &str) -> Result<Val, NoMemory>
     ensures { IfOk result (λ value. IsTrue (stands_in name_column value)) }
 {
     if name.is_empty() {
@@ -119,7 +119,7 @@ fn delete<L: Ledger>(
     snapshot.delete(alloc, 0, &[Val::Int(id)], steps)
 }
 
-fn append_row(row: &Row, out: &mut Vec<u8>) -> Result<(), NoMemory> {
+pub(crate) fn append_row(row: &Row, out: &mut Vec<u8>) -> Result<(), NoMemory> {
     for value in row.cells() {
         write_json(value, out)?;
         out.push(b' ')?;
@@ -129,7 +129,7 @@ fn append_row(row: &Row, out: &mut Vec<u8>) -> Result<(), NoMemory> {
 
 /// Copies of the rows, as JSON.
 #[tactic(auto, using(crate::proofs::Examples::one_table))]
-fn append_rows<L: Ledger>(
+pub(crate) fn append_rows<L: Ledger>(
     alloc: Global,
     snapshot: &Snapshot,
     steps: &mut Steps<L>,
