@@ -3,6 +3,7 @@
 
 mod faults;
 mod finding;
+mod held;
 mod meaning;
 mod mentions;
 
