@@ -190,7 +190,7 @@ fn links_of_all(alloc: Global, tables: &[TableEntry]) -> Result<LinkListList, No
     Ok(found)
 }
 
-fn grant_by(
+pub fn grant_by(
     alloc: Global,
     names: &Names,
     at: usize,
@@ -223,7 +223,7 @@ fn grant_in(alloc: Global, names: &Names, held: &Held<'_>) -> Result<Option<Gran
     grant_by(alloc, names, held.at, held.table, held.permission)
 }
 
-fn push_grant(grants: &mut GrantList, grant: Option<Grant>) -> Result<(), NoMemory>
+pub fn push_grant(grants: &mut GrantList, grant: Option<Grant>) -> Result<(), NoMemory>
     ensures { OnOk result (grants.new ≡ grants.old ++ option_to_list grant) }
 {
     match grant {
@@ -283,7 +283,7 @@ fn push_role(
     }
 }
 
-fn roles_of(alloc: Global, tables: &[TableEntry], names: &[Str]) -> Result<RoleList, NoMemory>
+pub fn roles_of(alloc: Global, tables: &[TableEntry], names: &[Str]) -> Result<RoleList, NoMemory>
     ensures { IfOk result (λ rs. rs ≡ map (role_def tables.now) names.now) }
 {
     let kept = held_by_role(alloc, tables)?;

@@ -11,7 +11,7 @@ use role_model::{PermissionEntry, TableEntry};
 use scalar_val::{NoMemory, Str};
 use std::alloc::Global;
 
-fn push_mentions_by(
+pub fn push_mentions_by(
     alloc: Global,
     permission: &PermissionEntry,
     names: &mut Names,
