@@ -3,8 +3,13 @@
 
 mod faults;
 mod finding;
+mod held;
 mod meaning;
 mod mentions;
+#[cfg(test)]
+mod plain;
+#[cfg(test)]
+mod tests;
 
 pub use finding::find_fault;
 pub use meaning::read_meaning;

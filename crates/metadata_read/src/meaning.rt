@@ -1,10 +1,12 @@
-ghost use Rattle.std.specs.Prelude.{◌≡◌, ◌++◌, ◌∷◌, [], IfOk, OnOk, map, option_and_then, option_map, unwrap_or};
-ghost use Rattle.std.specs.List.{filter_map, enumerate_from};
+ghost use Rattle.std.specs.Prelude.{◌≡◌, ◌++◌, ◌∷◌, [], IfOk, OnOk, map, unwrap_or};
+ghost use Rattle.std.specs.List.{filter_map};
 ghost use Rattle.std.specs.Option.{option_copied, option_to_list};
-ghost use Rattle.role_model.specs.MetadataFaults.{numbers_of, table_number, columns_of, table_def, link_def, link_defs, columns_by, grant_of, grant_for, role_def, role_names, session_names, meaning_of};
+ghost use Rattle.role_model.specs.MetadataFaults.{numbers_of, table_number, columns_of, table_def, link_def, link_defs, columns_by, grant_of, role_def, role_names, meaning_of};
+ghost use Rattle.metadata_read.specs.Held.{grant_held, role_held, kept_by};
 
 use crate::faults::{json_in, table_by, table_place};
-use crate::mentions::{permission_of, role_names_of, session_names_of};
+use crate::held::{Held, HeldList, HeldMap, held_by_role, held_in};
+use crate::mentions::{role_names_of, session_names_of};
 use data_model::{Catalog, Column, ColumnDefList, ColumnList, TableDef, TableDefList};
 use filter_read::{Names, column_place, number, read_filter};
 use role_model::{
@@ -188,7 +190,7 @@ fn links_of_all(alloc: Global, tables: &[TableEntry]) -> Result<LinkListList, No
     Ok(found)
 }
 
-fn grant_by(
+pub fn grant_by(
     alloc: Global,
     names: &Names,
     at: usize,
@@ -215,22 +217,13 @@ fn grant_by(
     }
 }
 
-fn grant_in(
-    alloc: Global,
-    role: &str,
-    names: &Names,
-    at: usize,
-    table: &TableEntry,
-) -> Result<Option<Grant>, NoMemory>
-    ensures { IfOk result (λ g. g ≡ grant_for role.now names.now (at, table.now)) }
+fn grant_in(alloc: Global, names: &Names, held: &Held<'_>) -> Result<Option<Grant>, NoMemory>
+    ensures { IfOk result (λ g. g ≡ grant_held names.now held.now) }
 {
-    match permission_of(table, role) {
-        Some(permission) => grant_by(alloc, names, at, table, permission),
-        None => Ok(None),
-    }
+    grant_by(alloc, names, held.at, held.table, held.permission)
 }
 
-fn push_grant(grants: &mut GrantList, grant: Option<Grant>) -> Result<(), NoMemory>
+pub fn push_grant(grants: &mut GrantList, grant: Option<Grant>) -> Result<(), NoMemory>
     ensures { OnOk result (grants.new ≡ grants.old ++ option_to_list grant) }
 {
     match grant {
@@ -242,28 +235,23 @@ fn push_grant(grants: &mut GrantList, grant: Option<Grant>) -> Result<(), NoMemo
     }
 }
 
-fn grants_of(
-    alloc: Global,
-    tables: &[TableEntry],
-    role: &str,
-    names: &Names,
-) -> Result<GrantList, NoMemory>
-    ensures { IfOk result (λ gs. gs ≡ filter_map (grant_for role.now names.now) (enumerate_from 0 tables.now)) }
+fn grants_of(alloc: Global, own: &[Held<'_>], names: &Names) -> Result<GrantList, NoMemory>
+    ensures { IfOk result (λ gs. gs ≡ filter_map (grant_held names.now) own.now) }
 {
     let mut grants = GrantList::new(alloc);
-    for at in 0..tables.len() {
-        let grant = grant_in(alloc, role, names, at, &tables[at])?;
+    for held in own {
+        let grant = grant_in(alloc, names, held)?;
         push_grant(&mut grants, grant)?;
     }
     Ok(grants)
 }
 
-fn role_of(alloc: Global, tables: &[TableEntry], role: &str) -> Result<RoleDef, NoMemory>
-    ensures { IfOk result (λ r. r ≡ role_def tables.now role.now) }
+fn role_of(alloc: Global, own: &[Held<'_>], role: &str) -> Result<RoleDef, NoMemory>
+    ensures { IfOk result (λ r. r ≡ role_held role.now own.now) }
 {
     let name = Str::of(alloc, role)?;
-    let session_names = session_names_of(alloc, tables, role)?;
-    let grants = grants_of(alloc, tables, role, &session_names)?;
+    let session_names = session_names_of(alloc, own)?;
+    let grants = grants_of(alloc, own, &session_names)?;
     Ok(RoleDef {
         name,
         session_names: session_names.into_texts(),
@@ -271,13 +259,37 @@ fn role_of(alloc: Global, tables: &[TableEntry], role: &str) -> Result<RoleDef, 
     })
 }
 
-fn roles_of(alloc: Global, tables: &[TableEntry], names: &[Str]) -> Result<RoleList, NoMemory>
+fn role_by(alloc: Global, own: Option<&HeldList<'_>>, role: &str) -> Result<RoleDef, NoMemory>
+    ensures { IfOk result (λ r. r ≡ role_held role.now (unwrap_or (option_copied own.entry) [])) }
+{
+    match own {
+        Some(own) => role_of(alloc, own.as_slice(), role),
+        None => role_of(alloc, &[], role),
+    }
+}
+
+fn push_role(
+    alloc: Global,
+    roles: &mut RoleList,
+    kept: &HeldMap<'_>,
+    role: &str,
+) -> Result<(), NoMemory>
+    ensures { OnOk result (roles.new ≡ roles.old ++ role_held role.now (kept_by kept.now role.now) ∷ []) }
+{
+    let role = role_by(alloc, held_in(kept, role), role)?;
+    match roles.push(role) {
+        Ok(()) => Ok(()),
+        Err(_back) => Err(NoMemory),
+    }
+}
+
+pub fn roles_of(alloc: Global, tables: &[TableEntry], names: &[Str]) -> Result<RoleList, NoMemory>
     ensures { IfOk result (λ rs. rs ≡ map (role_def tables.now) names.now) }
 {
+    let kept = held_by_role(alloc, tables)?;
     let mut roles = RoleList::new(alloc);
     for name in names {
-        let role = role_of(alloc, tables, name.as_str())?;
-        roles.push(role).map_err(|_| NoMemory)?;
+        push_role(alloc, &mut roles, &kept, name.as_str())?;
     }
     Ok(roles)
 }

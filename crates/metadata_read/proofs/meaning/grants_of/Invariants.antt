@@ -1,7 +1,7 @@
 use Rattle.std.proofs.Common.{◌≡◌, ◌++◌, drop}
-use Rattle.std.specs.List.{filter_map, enumerate_from}
-use Rattle.role_model.specs.MetadataFaults.{grant_for}
+use Rattle.std.specs.List.{filter_map}
+use Rattle.metadata_read.specs.Held.{grant_held}
 use Rattle.metadata_read.proofs.meaning.grants_of.Given as goal
 
-abbrev pub invariant-loop-at : goal.invariant-loop-at
-invariant-loop-at l = l.grants ++ filter_map (grant_for l.role l.names) (enumerate_from l.at (drop l.at l.tables)) ≡ filter_map (grant_for l.role l.names) (enumerate_from 0 l.tables)
+abbrev pub invariant-loop-held : goal.invariant-loop-held
+invariant-loop-held l = l.grants ++ filter_map (grant_held l.names) (drop l.held-index l.own) ≡ filter_map (grant_held l.names) l.own
