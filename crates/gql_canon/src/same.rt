@@ -63,7 +63,7 @@ pub fn same_pairs(a: &[GPair], b: &[GPair]) -> bool
     true
 }
 
-fn same_refs(a: &[&GPair], b: &[&GPair]) -> bool
+pub fn same_refs(a: &[&GPair], b: &[&GPair]) -> bool
     ensures { IsTrue result ↔ (map (λ p. p.now) a.now ≡ map (λ p. p.now) b.now) }
 {
     if a.len() != b.len() {
@@ -79,11 +79,7 @@ fn same_refs(a: &[&GPair], b: &[&GPair]) -> bool
 
 /// Whether the arguments, once they are ordered by name, are those in order. So a list that is compared with many is
 /// ordered once.
-pub fn same_ordered(
-    alloc: Global,
-    ordered: &[&GPair],
-    args: &[GPair],
-) -> Result<bool, NoMemory>
+pub fn same_ordered(alloc: Global, ordered: &[&GPair], args: &[GPair]) -> Result<bool, NoMemory>
     ensures { IfOk result (λ found. IsTrue found ↔ (map (λ p. p.now) ordered.now ≡ by_name args.now)) }
 {
     if ordered.len() != args.len() {
