@@ -1,1 +1,2 @@
 pub mod OrderRules
+pub mod StableRules

@@ -4,8 +4,10 @@
 mod canonical;
 mod ordered;
 mod same;
+#[cfg(test)]
+mod tests;
 mod values_text;
 
 pub use canonical::canon;
 pub use ordered::ordered_by_name;
-pub use same::same_args;
+pub use same::{same_args, same_ordered, same_pairs};

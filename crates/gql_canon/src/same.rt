@@ -47,8 +47,9 @@ fn same_pair(a: &GPair, b: &GPair) -> bool
     a.name.as_str() == b.name.as_str() && same_value(&a.value, &b.value)
 }
 
+/// Whether the pairs are the same in the order in which they stand.
 #[cycle(same)]
-fn same_pairs(a: &[GPair], b: &[GPair]) -> bool
+pub fn same_pairs(a: &[GPair], b: &[GPair]) -> bool
     ensures { IsTrue result ↔ (a.now ≡ b.now) }
 {
     if a.len() != b.len() {
@@ -62,7 +63,7 @@ fn same_pairs(a: &[GPair], b: &[GPair]) -> bool
     true
 }
 
-fn same_refs(a: &[&GPair], b: &[&GPair]) -> bool
+pub fn same_refs(a: &[&GPair], b: &[&GPair]) -> bool
     ensures { IsTrue result ↔ (map (λ p. p.now) a.now ≡ map (λ p. p.now) b.now) }
 {
     if a.len() != b.len() {
@@ -76,11 +77,25 @@ fn same_refs(a: &[&GPair], b: &[&GPair]) -> bool
     true
 }
 
-/// Whether the arguments are the same when they are ordered by name.
+/// Whether the arguments, once they are ordered by name, are those in order. So a list that is compared with many is
+/// ordered once.
+pub fn same_ordered(alloc: Global, ordered: &[&GPair], args: &[GPair]) -> Result<bool, NoMemory>
+    ensures { IfOk result (λ found. IsTrue found ↔ (map (λ p. p.now) ordered.now ≡ by_name args.now)) }
+{
+    if ordered.len() != args.len() {
+        return Ok(false);
+    }
+    let other = ordered_by_name(alloc, args)?;
+    Ok(same_refs(ordered, other.as_slice()))
+}
+
+/// Whether the arguments are the same when they are ordered by name. Those that are written alike aren't ordered.
 pub fn same_args(alloc: Global, a: &[GPair], b: &[GPair]) -> Result<bool, NoMemory>
     ensures { IfOk result (λ found. IsTrue found ↔ (by_name a.now ≡ by_name b.now)) }
 {
-    let ordered_a = ordered_by_name(alloc, a)?;
-    let ordered_b = ordered_by_name(alloc, b)?;
-    Ok(same_refs(ordered_a.as_slice(), ordered_b.as_slice()))
+    if same_pairs(a, b) {
+        return Ok(true);
+    }
+    let ordered = ordered_by_name(alloc, a)?;
+    same_ordered(alloc, ordered.as_slice(), b)
 }

@@ -1,6 +1,6 @@
 -- The fields of groups.
-use Rattle.std.proofs.Common.{◌≡◌, ◌∙◌, ◌⊎◌, inl, inr, ◌<◌, ◌≤◌, ◌+◌, ◌↔◌, max, sym, ap, refl, subst, arith, ℕ, zero, suc, nat_eq, Bool, true, false, List, [], ◌∷◌, ◌++◌, length, map, take, drop, get_or, IsTrue}
-use Rattle.std.proofs.lemmas.List.{map-append, take-append-drop}
+use Rattle.std.proofs.Common.{◌≡◌, ◌∙◌, ◌⊎◌, inl, inr, ◌<◌, ◌≤◌, ◌+◌, ◌-◌, ◌↔◌, max, sym, ap, refl, subst, arith, ℕ, zero, suc, nat_eq, Bool, true, false, List, [], ◌∷◌, ◌++◌, length, map, take, drop, get_or, IsTrue, IfOk, Result, Ok, Err}
+use Rattle.std.proofs.lemmas.List.{map-append, take-append-drop, take_all, length-drop}
 use Rattle.request_model.specs.declared.flat.FlatFault.{FlatFault}
 use Rattle.request_model.specs.declared.flat.FlatField.{FlatField}
 use Rattle.request_model.specs.declared.flat.FlatField.TheViews.{roll-FlatField}
@@ -26,6 +26,17 @@ pub some_later : {X : Type 0} (P : X → Type 0) (xs : List X) (i : ℕ) (x : X)
 some_later P xs i x lt e none h =
     let here = from_place xs i (i + 1) x lt refl e in
     (λ s. not_first P x (drop (i + 1) xs) none (subst (λ ys. Some_of P ys) here (h.0 s)), λ s. h.1 (subst (λ ys. Some_of P ys) (sym here) (inr s)))
+
+-- an answer of those that are left is one of all
+some_of_rest : {X E : Type 0} (P : X → Type 0) (xs ys : List X) (r : Result Bool E) → Some_of P xs ↔ Some_of P ys → IfOk r (λ found. IsTrue found ↔ Some_of P ys) → IfOk r (λ found. IsTrue found ↔ Some_of P xs)
+some_of_rest P xs ys (Ok found) h e = (λ t. h.1 (e.0 t), λ s. e.1 (h.0 s))
+some_of_rest P xs ys (Err fault) h e = tt
+
+pub some_left_over : {X E : Type 0} (P : X → Type 0) (xs : List X) (i : ℕ) (r : Result Bool E) → Some_of P xs ↔ Some_of P (drop i xs) →
+    IfOk r (λ found. IsTrue found ↔ Some_of P (take (length xs - i) (drop i xs))) → IfOk r (λ found. IsTrue found ↔ Some_of P xs)
+some_left_over P xs i r h e =
+    let rest : take (length xs - i) (drop i xs) ≡ drop i xs = take_all (length xs - i) (drop i xs) (omega (arith, length-drop i xs)) in
+    some_of_rest P xs (drop i xs) r h (subst (λ ys. IfOk r (λ found. IsTrue found ↔ Some_of P ys)) rest e)
 
 some_left : {X : Type 0} (P : X → Type 0) (xs ys : List X) → Some_of P xs → Some_of P (xs ++ ys)
 some_left P [] ys s = absurd s

@@ -1,6 +1,6 @@
 //! The fields of an object, and of those in it (GraphQL October 2021, section 6.4.3, "Merging Selection Sets").
 
-ghost use Rattle.std.specs.Prelude.{◌≡◌, ◌≤◌, ◌<◌, ◌+◌, ◌⊎◌, ◌↔◌, ◌∷◌, [], map, IfOk, MatchResult, IsTrue};
+ghost use Rattle.std.specs.Prelude.{◌≡◌, ◌≤◌, ◌<◌, ◌+◌, ◌⊎◌, ◌↔◌, ◌∷◌, [], map, IfOk, IfSome, None, MatchResult, IsTrue};
 ghost use Rattle.std.specs.List.{list_any};
 ghost use Rattle.request_model.specs.Selection as spec;
 ghost use Rattle.request_model.specs.declared.flat.FlatField.TheViews.{roll-FlatField};
@@ -9,9 +9,9 @@ ghost use Rattle.gql_flat.specs.Fields.{AreFields, AreTooLarge, FailsSo, IsCount
 
 use crate::collecting::{Group, Selected, collected_inside, conditions_of, groups_of};
 use crate::copies::{copy_pairs, copy_str};
-use gql_canon::same_args;
+use gql_canon::{ordered_by_name, same_ordered, same_pairs};
 use gql_scope::{Scope, add, same};
-use request_model::{FlatFault, FlatField, FlatFieldList, StrList};
+use request_model::{FlatFault, FlatField, FlatFieldList, GPair, StrList};
 use scalar_val::{List, NoMemory, Str};
 use std::alloc::Global;
 
@@ -25,6 +25,7 @@ fn group_conflicts(alloc: Global, group: &Group<'_>) -> Result<bool, NoMemory>
     some_differ(alloc, &group.first, group.others.as_slice())
 }
 
+/// Fields that are written alike are told without an order of their arguments.
 fn some_differ(
     alloc: Global,
     first: &Selected<'_>,
@@ -32,8 +33,27 @@ fn some_differ(
 ) -> Result<bool, NoMemory>
     ensures { IfOk result (λ found. IsTrue found ↔ spec.Some_of (spec.Differ first.now) others.now) }
 {
+    for (index, field) in others.iter().enumerate() {
+        match differ_as_written(first, field) {
+            Some(true) => return Ok(true),
+            Some(false) => {}
+            None => return some_differ_in_order(alloc, first, &others[index..]),
+        }
+    }
+    Ok(false)
+}
+
+/// Orders the arguments of the first field once, for all the others.
+fn some_differ_in_order(
+    alloc: Global,
+    first: &Selected<'_>,
+    others: &[Selected<'_>],
+) -> Result<bool, NoMemory>
+    ensures { IfOk result (λ found. IsTrue found ↔ spec.Some_of (spec.Differ first.now) others.now) }
+{
+    let ordered = ordered_by_name(alloc, first.args)?;
     for field in others {
-        let found = differ(alloc, first, field)?;
+        let found = differ(alloc, first, ordered.as_slice(), field)?;
         if found {
             return Ok(true);
         }
@@ -41,13 +61,33 @@ fn some_differ(
     Ok(false)
 }
 
-fn differ(alloc: Global, first: &Selected<'_>, field: &Selected<'_>) -> Result<bool, NoMemory>
+fn differ(
+    alloc: Global,
+    first: &Selected<'_>,
+    ordered: &[&GPair],
+    field: &Selected<'_>,
+) -> Result<bool, NoMemory>
+    requires { map (λ p. p.now) ordered.now ≡ spec.by_name first.now.args }
     ensures { IfOk result (λ found. IsTrue found ↔ spec.Differ first.now field.now) }
 {
-    if !same(first.name.as_str(), field.name.as_str()) {
-        return Ok(true);
+    if let Some(found) = differ_as_written(first, field) {
+        return Ok(found);
     }
-    Ok(!same_args(alloc, first.args, field.args)?)
+    Ok(!same_ordered(alloc, ordered, field.args)?)
+}
+
+/// Whether the fields differ, where their names and the written order of their arguments tell.
+fn differ_as_written(first: &Selected<'_>, field: &Selected<'_>) -> Option<bool>
+    ensures told { IfSome result (λ found. IsTrue found ↔ spec.Differ first.now field.now) }
+    ensures untold { result ≡ None → first.now.name ≡ field.now.name }
+{
+    if !same(first.name.as_str(), field.name.as_str()) {
+        return Some(true);
+    }
+    if same_pairs(first.args, field.args) {
+        return Some(false);
+    }
+    None
 }
 
 fn has_inner(group: &Group<'_>) -> bool

@@ -1,12 +1,18 @@
-use Rattle.std.proofs.Common.{arith, ◌≡◌, ◌∙◌, ◌-◌, ◌+◌, ap, length, get_or}
+use Rattle.std.proofs.Common.{◌∙◌, ap, is_lt}
+use Rattle.std.proofs.lemmas.Cmp.{on_total, nat_list_cmp_total}
+use Rattle.std.proofs.lemmas.List.Sorted.{ranks_by, answers_always}
+use Rattle.request_model.specs.Selection.{by_name}
+use Rattle.request_model.specs.declared.document.GValue.TheViews.{out-GPair}
 use Rattle.gql_canon.specs.Names.{compare_names}
-use Rattle.gql_canon.proofs.OrderRules.{inserted}
+use Rattle.gql_canon.proofs.StableRules.{sorted_by_placing}
 use Rattle.gql_canon.proofs.ordered.ordered_by_name.Goals as goal
 
-pub loop-turn-preserved : goal.loop-turn-preserved
-loop-turn-preserved c =
-    let pairs = c.args.pairs.now in
-    let at : length pairs - 1 - c.loop-turn.turn ≡ length pairs - (c.loop-turn.turn + 1) = omega arith in
-    inserted compare_names (λ p. p.now) pairs c.loop-turn.ordered.items c.as_slice.result.now c.insert.new.self.items _ c.place-index.result (length pairs - (c.loop-turn.turn + 1)) (length pairs - c.loop-turn.turn)
-    c.in_ok-insert.ensures.items c.as_slice.ensures.value c.place-index.ensures.placed c.loop-turn.invariant (omega (arith, c.loop-turn-test.true)) (omega (arith, c.loop-turn-test.true))
-    (c.index-pairs-pairs.is ∙ ap (λ j. get_or pairs j c.index-pairs-pairs.result) at)
+pub returns : goal.returns
+returns c =
+    let total = on_total (λ p. (out-GPair p).name) nat_list_cmp_total in
+    let ranks = ranks_by total (λ p. p.now) in
+    let sorted = c.in_ok-sort_by.ensures in
+    sorted_by_placing (λ p. p.now) compare_names total c.in_ok-ordered.ordered.items c.sort_by.new.self.items
+    (sorted.sorted _ ranks (answers_always _ _ _ (λ f a r f' k. ap is_lt k.met)))
+    (sorted.stable _ ranks (answers_always _ _ _ (λ f a r f' k. ap is_lt k.met)))
+    ∙ ap by_name c.in_ok-ordered.ensures

@@ -1,7 +1,7 @@
 use Rattle.std.proofs.Common.{◌∙◌, sym, map}
 use Rattle.gql_canon.specs.Names.{compare_names}
 use Rattle.gql_canon.proofs.OrderRules.{placed_here, placed_behind, at_mapped, below_mapped}
-use Rattle.gql_canon.proofs.ordered.place.Goals as goal
+use Rattle.gql_canon.proofs.tests.place.Goals as goal
 
 pub returns-then-is_before-clause-placed : goal.returns-then-is_before-clause-placed
 returns-then-is_before-clause-placed c =

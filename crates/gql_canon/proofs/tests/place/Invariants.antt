@@ -1,7 +1,7 @@
 use Rattle.std.proofs.Common.{◌≡◌, ◌++◌, map, take, drop}
 use Rattle.request_model.specs.Ordered.{placed}
 use Rattle.gql_canon.specs.Names.{compare_names}
-use Rattle.gql_canon.proofs.ordered.place.Given as goal
+use Rattle.gql_canon.proofs.tests.place.Given as goal
 
 -- the pair goes behind those that are passed
 abbrev pub invariant-loop-index : goal.invariant-loop-index

@@ -1,6 +1,6 @@
 use Rattle.std.proofs.Common.{◌≡◌, ◌-◌, map, drop, length}
 use Rattle.request_model.specs.Selection.{by_name}
-use Rattle.gql_canon.proofs.ordered.ordered_by_name.Given as goal
+use Rattle.gql_canon.proofs.tests.plain_order.Given as goal
 
 -- the last pairs are in order
 abbrev pub invariant-loop-turn : goal.invariant-loop-turn
