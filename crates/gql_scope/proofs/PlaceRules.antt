@@ -1,16 +1,22 @@
 -- The places of names.
 use Rattle.std.proofs.Common.{◌≡◌, ◌∙◌, sym, ap, refl, subst, arith, ◌<◌, ◌+◌, ◌-◌, take, ℕ, zero, suc, Bool, true, false, if◌then◌else◌, List, [], ◌∷◌, ◌++◌, length, map, Option, Some, None}
 use denote.Ref.{Bor}
-use Rattle.std.specs.Prelude.{◌||◌, option_map, option_and_then, is_some, unwrap_or}
+use Rattle.std.specs.Prelude.{◌||◌, option_map, option_and_then, is_some, unwrap_or, find}
+use Rattle.std.specs.Option.{option_flatten}
 use Rattle.std.specs.List.{list_any, slice_get}
 use Rattle.std.specs.Str.{bytes_eq}
 use Rattle.std.specs.BTreeMap.{BTreeMap}
 use Rattle.std.proofs.lemmas.List.{map-append, length-map, length-append, take-append-le}
 use Rattle.std.proofs.Math.Seq.{take-length}
+use Rattle.std.proofs.lemmas.List.Recursion.{is_position_or_len}
 use Rattle.std.proofs.lemmas.Map.Text.{btree_map_updates_str}
 use Rattle.gql_scope.proofs.TruthRules.{same_text, own_text}
 use Rattle.request_model.specs.Strings.{Text}
-use Rattle.request_model.specs.Selection.{Fragment, fragment_named}
+use Rattle.request_model.specs.Selection.{Fragment, fragment_named, variable_bool, given_values, repeats}
+use Rattle.request_model.specs.declared.document.VarDef.{VarDef}
+use Rattle.serde_json.specs.View.{view}
+use Rattle.gql_scope.specs.Scopes.{Given, AreVariables}
+use Rattle.gql_scope.specs.Walks.{place_of}
 use Rattle.gql_scope.specs.Places.{first_at, place_in, ArePlaces, Learns}
 
 same_truth : (b c : Bool) → (b ≡ true → c ≡ true) → (c ≡ true → b ≡ true) → b ≡ c
@@ -180,3 +186,108 @@ found_in now items read names t place found en em ep er ef =
 
 pub not_in : (now items : List Fragment) (names : List Text) (t : Text) → items ≡ now → names ≡ map (λ (f : Fragment). f.name) items → None ≡ first_at names t → None ≡ fragment_named now t
 not_in now items names t en em ep = ap (option_and_then (slice_get items)) (ep ∙ ap (λ ns. first_at ns t) em) ∙ found_at items t ∙ ap (λ fs. fragment_named fs t) en
+
+-- ---- what is found at a place
+
+then_or : {X Y : Type 0} (f : X → Option Y) (b : Bool) (x : X) (o : Option X) (p : Option Y) → option_and_then f o ≡ p → (if b then f x else p) ≡ option_and_then f (if b then Some x else o)
+then_or f true x o p h = refl
+then_or f false x o p h = sym h
+
+flat_or : (f : VarDef → Option Bool) (b : Bool) (v : VarDef) (bs : List (Option Bool)) (o : Option ℕ) (p : Option Bool) → option_and_then (λ k. option_flatten (slice_get bs k)) o ≡ p →
+    option_and_then (λ k. option_flatten (slice_get (f v ∷ bs) k)) (if b then Some zero else option_map suc o) ≡ (if b then f v else p)
+flat_or f true v bs o p h = refl
+flat_or f false v bs (Some k) p h = h
+flat_or f false v bs None p h = h
+
+-- what a function gives of the first variable of a name
+pub of_first : (f : VarDef → Option Bool) (vs : List VarDef) (t : Text) →
+    option_and_then (λ k. option_flatten (slice_get (map f vs) k)) (first_at (map (λ (v : VarDef). v.name) vs) t) ≡ option_and_then f (find (λ (v : VarDef). bytes_eq t v.name) vs)
+of_first f [] t = refl
+of_first f (v ∷ vs) t =
+    flat_or f (bytes_eq t v.name) v (map f vs) (first_at (map (λ (v : VarDef). v.name) vs) t) _ (of_first f vs t)
+    ∙ then_or f (bytes_eq t v.name) v (find (λ (v : VarDef). bytes_eq t v.name) vs) _ refl
+
+-- the place of the first fragment of a name, or their number
+count_or : (b : Bool) (o : Option ℕ) (n more : ℕ) → more ≡ 1 + n → unwrap_or (if b then Some zero else option_map suc o) more ≡ (if b then 0 else 1 + unwrap_or o n)
+count_or true o n more h = refl
+count_or false (Some k) n more h = omega arith
+count_or false None n more h = h
+
+pub first_or_count : (fs : List Fragment) (t : Text) → unwrap_or (first_at (map (λ (f : Fragment). f.name) fs) t) (length fs) ≡ place_of fs t
+first_or_count fs t =
+    is_position_or_len (λ gs. unwrap_or (first_at (map (λ (f : Fragment). f.name) gs) t) (length gs)) (λ (f : Fragment). bytes_eq t f.name) refl
+    (λ g gs. count_or (bytes_eq t g.name) (first_at (map (λ (f : Fragment). f.name) gs) t) (length gs) (length (g ∷ gs)) (omega arith)) fs
+
+pub place_or_count : (now items : List Fragment) (names : List Text) (t : Text) (o : Option ℕ) (count : ℕ) → items ≡ now → names ≡ map (λ (f : Fragment). f.name) items → o ≡ first_at names t → count ≡ length items → unwrap_or o count ≡ place_of now t
+place_or_count now items names t o count en em eo ec =
+    ap (λ p. unwrap_or p count) eo ∙ ap (λ ns. unwrap_or (first_at ns t) count) em ∙ ap (unwrap_or (first_at (map (λ (f : Fragment). f.name) items) t)) ec
+    ∙ first_or_count items t ∙ ap (λ fs. place_of fs t) en
+
+-- what the variable of a name decides
+module _ (now : Given) (names : List Text) (booleans : List (Option Bool)) (t : Text) (are : AreVariables now.variables now.vars names booleans) where
+  abbrev pub decided : Option Bool
+  decided = option_and_then (variable_bool (given_values (view now.variables))) (find (λ (v : VarDef). bytes_eq t v.name) now.vars)
+
+  named_at : (o : Option ℕ) → o ≡ first_at names t → option_and_then (λ k. option_flatten (slice_get booleans k)) o ≡ decided
+  named_at o e =
+      ap (option_and_then (λ k. option_flatten (slice_get booleans k))) (e ∙ ap (λ ns. first_at ns t) are.names_are)
+      ∙ ap (λ bs. option_and_then (λ k. option_flatten (slice_get bs k)) (first_at (map (λ (v : VarDef). v.name) now.vars) t)) are.booleans_are
+      ∙ of_first (variable_bool (given_values (view now.variables))) now.vars t
+
+  pub some_named : (place : ℕ) (read : List (Option Bool)) (found : Option Bool) → Some place ≡ first_at names t → read ≡ booleans → found ≡ option_flatten (slice_get read place) → found ≡ decided
+  some_named place read found e er ef = ef ∙ ap (λ bs. option_flatten (slice_get bs place)) er ∙ named_at (Some place) e
+
+  pub none_named : None ≡ first_at names t → None ≡ decided
+  none_named e = named_at None e
+
+-- ---- names that repeat
+
+-- one of the names is among those that were seen, or two of them are the same
+abbrev pub some_again : List Text → List Text → Bool
+some_again seen names = list_any (λ t. list_any (bytes_eq t) seen) names || repeats names
+
+any_more : (t u : Text) (seen : List Text) → list_any (bytes_eq u) (seen ++ t ∷ []) ≡ (list_any (bytes_eq u) seen || bytes_eq t u)
+any_more t u [] = or_none (bytes_eq u t) ∙ turned u t
+  where
+    or_none : (b : Bool) → (b || false) ≡ b
+    or_none true = refl
+    or_none false = refl
+any_more t u (s ∷ seen) = ap (λ b. bytes_eq u s || b) (any_more t u seen) ∙ or_or (bytes_eq u s) (list_any (bytes_eq u) seen) (bytes_eq t u)
+  where
+    or_or : (a b c : Bool) → (a || (b || c)) ≡ ((a || b) || c)
+    or_or true b c = refl
+    or_or false b c = refl
+
+any_either : (t : Text) (seen ns : List Text) → list_any (λ u. list_any (bytes_eq u) (seen ++ t ∷ [])) ns ≡ (list_any (λ u. list_any (bytes_eq u) seen) ns || list_any (bytes_eq t) ns)
+any_either t seen [] = refl
+any_either t seen (u ∷ us) =
+    ap (λ b. b || list_any (λ v. list_any (bytes_eq v) (seen ++ t ∷ [])) us) (any_more t u seen)
+    ∙ ap (λ b. (list_any (bytes_eq u) seen || bytes_eq t u) || b) (any_either t seen us)
+    ∙ mixed (list_any (bytes_eq u) seen) (bytes_eq t u) (list_any (λ v. list_any (bytes_eq v) seen) us) (list_any (bytes_eq t) us)
+  where
+    mixed : (a b c d : Bool) → ((a || b) || (c || d)) ≡ ((a || c) || (b || d))
+    mixed true b c d = refl
+    mixed false true true d = refl
+    mixed false true false d = refl
+    mixed false false c d = refl
+
+grouped : (a b c : Bool) → ((a || b) || c) ≡ (a || (b || c))
+grouped true b c = refl
+grouped false b c = refl
+
+-- a name that wasn't seen is seen now
+pub again_after : (t : Text) (seen ns : List Text) → list_any (bytes_eq t) seen ≡ false → some_again seen (t ∷ ns) ≡ some_again (seen ++ t ∷ []) ns
+again_after t seen ns new =
+    ap (λ b. (b || list_any (λ u. list_any (bytes_eq u) seen) ns) || (list_any (bytes_eq t) ns || repeats ns)) new
+    ∙ sym (grouped (list_any (λ u. list_any (bytes_eq u) seen) ns) (list_any (bytes_eq t) ns) (repeats ns))
+    ∙ sym (ap (λ b. b || repeats ns) (any_either t seen ns))
+
+pub again_here : (t : Text) (seen ns : List Text) → list_any (bytes_eq t) seen ≡ true → some_again seen (t ∷ ns) ≡ true
+again_here t seen ns known = ap (λ b. (b || list_any (λ u. list_any (bytes_eq u) seen) ns) || (list_any (bytes_eq t) ns || repeats ns)) known
+
+pub none_again : (ns : List Text) → some_again [] ns ≡ repeats ns
+none_again ns = ap (λ b. b || repeats ns) (none ns)
+  where
+    none : (ns : List Text) → list_any (λ u. list_any (bytes_eq u) []) ns ≡ false
+    none [] = refl
+    none (n ∷ ns) = none ns

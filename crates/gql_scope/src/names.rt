@@ -4,6 +4,7 @@ ghost use Rattle.std.specs.Prelude.{◌≡◌, ◌++◌, ◌∷◌, [], OnOk, On
 ghost use Rattle.std.specs.BTreeMap.{IsUnchanged};
 ghost use Rattle.std.specs.List.{list_any};
 ghost use Rattle.std.specs.Str.{bytes_eq};
+ghost use Rattle.request_model.specs.Selection as spec;
 ghost use Rattle.gql_scope.specs.Places.{first_at, place_in, ArePlaces, Learns};
 
 use scalar_val::{NoMemory, Str};
@@ -133,4 +134,17 @@ impl<'a> Names<'a> {
     {
         put_new(&mut self.names, &mut self.places, name)
     }
+}
+
+/// Whether two of the names are the same.
+pub fn repeats(alloc: Global, names: &[&Str]) -> Result<bool, NoMemory>
+    ensures { IfOk result (λ twice. twice ≡ spec.repeats (map (λ n. n.now) names.now)) }
+{
+    let mut seen = Names::new(alloc);
+    for name in names {
+        if !seen.push_new(name)? {
+            return Ok(true);
+        }
+    }
+    Ok(false)
 }
