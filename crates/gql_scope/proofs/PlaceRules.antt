@@ -1,12 +1,13 @@
 -- The places of names.
-use Rattle.std.proofs.Common.{◌≡◌, ◌∙◌, sym, ap, refl, subst, arith, ◌<◌, ◌+◌, ◌-◌, take, ℕ, zero, suc, Bool, true, false, if◌then◌else◌, List, [], ◌∷◌, ◌++◌, length, map, Option, Some, None}
+use Rattle.std.proofs.Common.{◌≡◌, ◌∙◌, sym, ap, refl, subst, arith, ◌<◌, ◌+◌, ◌-◌, take, drop, get_or, ℕ, zero, suc, Bool, true, false, if◌then◌else◌, List, [], ◌∷◌, ◌++◌, length, map, Option, Some, None}
 use denote.Ref.{Bor}
 use Rattle.std.specs.Prelude.{◌||◌, option_map, option_and_then, is_some, unwrap_or, find}
 use Rattle.std.specs.Option.{option_flatten}
+use Rattle.std.specs.Bool.{MatchBool}
 use Rattle.std.specs.List.{list_any, slice_get}
 use Rattle.std.specs.Str.{bytes_eq}
 use Rattle.std.specs.BTreeMap.{BTreeMap}
-use Rattle.std.proofs.lemmas.List.{map-append, length-map, length-append, take-append-le}
+use Rattle.std.proofs.lemmas.List.{map-append, length-map, length-append, take-append-le, drop_more}
 use Rattle.std.proofs.Math.Seq.{take-length}
 use Rattle.std.proofs.lemmas.List.Recursion.{is_position_or_len}
 use Rattle.std.proofs.lemmas.Map.Text.{btree_map_updates_str}
@@ -276,14 +277,24 @@ grouped true b c = refl
 grouped false b c = refl
 
 -- a name that wasn't seen is seen now
-pub again_after : (t : Text) (seen ns : List Text) → list_any (bytes_eq t) seen ≡ false → some_again seen (t ∷ ns) ≡ some_again (seen ++ t ∷ []) ns
+again_after : (t : Text) (seen ns : List Text) → list_any (bytes_eq t) seen ≡ false → some_again seen (t ∷ ns) ≡ some_again (seen ++ t ∷ []) ns
 again_after t seen ns new =
     ap (λ b. (b || list_any (λ u. list_any (bytes_eq u) seen) ns) || (list_any (bytes_eq t) ns || repeats ns)) new
     ∙ sym (grouped (list_any (λ u. list_any (bytes_eq u) seen) ns) (list_any (bytes_eq t) ns) (repeats ns))
     ∙ sym (ap (λ b. b || repeats ns) (any_either t seen ns))
 
-pub again_here : (t : Text) (seen ns : List Text) → list_any (bytes_eq t) seen ≡ true → some_again seen (t ∷ ns) ≡ true
-again_here t seen ns known = ap (λ b. (b || list_any (λ u. list_any (bytes_eq u) seen) ns) || (list_any (bytes_eq t) ns || repeats ns)) known
+again_step : (first : Bool) (t : Text) (seen after ns : List Text) → first ≡ true →
+    MatchBool first ((list_any (bytes_eq t) seen ≡ false) × (after ≡ seen ++ t ∷ [])) ((list_any (bytes_eq t) seen ≡ true) × (after ≡ seen)) → some_again after ns ≡ some_again seen (t ∷ ns)
+again_step true t seen after ns e h = ap (λ s. some_again s ns) h.1 ∙ sym (again_after t seen ns h.0)
+again_step false t seen after ns e h = cc
+
+pub again_step_at : (names : List (Bor Text)) (i : ℕ) (name : Bor Text) (first : Bool) (seen after : List Text) → i < length names → name ≡ get_or names i name → first ≡ true →
+    MatchBool first ((list_any (bytes_eq name.now) seen ≡ false) × (after ≡ seen ++ name.now ∷ [])) ((list_any (bytes_eq name.now) seen ≡ true) × (after ≡ seen)) →
+    some_again after (map (λ n. n.now) (drop (i + 1) names)) ≡ some_again seen (map (λ n. n.now) (drop i names))
+again_step_at names i name first seen after lt e new h =
+    again_step first name.now seen after (map (λ n. n.now) (drop (i + 1) names)) new h
+    ∙ ap (λ n. some_again seen (map (λ m. m.now) (n ∷ drop (i + 1) names))) e
+    ∙ sym (ap (λ ns. some_again seen (map (λ n. n.now) ns)) (drop_more names i name lt))
 
 pub none_again : (ns : List Text) → some_again [] ns ≡ repeats ns
 none_again ns = ap (λ b. b || repeats ns) (none ns)
