@@ -15,7 +15,7 @@ use crate::collecting::{collected, conditions_of, groups_of};
 use crate::copies::copy_variables;
 use crate::fields::{Tally, copy_texts, fields};
 use gql_scope::{
-    Fragment, Fragments, Operation, Scope, chosen, first_refusal, fragments_of, operations_of, same,
+    Fragment, Fragments, Operation, Scope, chosen, first_refusal, fragments_of, operations_of, repeats,
 };
 use json_out::Request;
 use request_model::{Document, Flat, FlatFault, FlatFieldList, OpWord, StrList, VarDef, Word};
@@ -40,28 +40,6 @@ fn served_word(operation: &Operation<'_>) -> Option<Word>
     ensures { result ≡ spec.served operation.now.word }
 {
     served(operation.word)
-}
-
-fn is_among(name: &Str, names: &[&Str]) -> bool
-    ensures { result ≡ list_any (bytes_eq name.now) (map (λ n. n.now) names.now) }
-{
-    for other in names {
-        if same(name.as_str(), other.as_str()) {
-            return true;
-        }
-    }
-    false
-}
-
-fn repeats(names: &[&Str]) -> bool
-    ensures { result ≡ spec.repeats (map (λ n. n.now) names.now) }
-{
-    for (index, name) in names.iter().enumerate() {
-        if is_among(name, &names[index + 1..]) {
-            return true;
-        }
-    }
-    false
 }
 
 fn operation_names<'a>(
@@ -109,10 +87,10 @@ fn shares_name(
 {
     let operation_names = operation_names(alloc, operations)?;
     let fragment_names = fragment_names(alloc, scope.fragments.as_slice())?;
-    let variable_names = variable_names(alloc, scope.vars)?;
-    let operations_share = repeats(operation_names.as_slice());
-    let fragments_share = repeats(fragment_names.as_slice());
-    let variables_share = repeats(variable_names.as_slice());
+    let variable_names = variable_names(alloc, scope.vars())?;
+    let operations_share = repeats(alloc, operation_names.as_slice())?;
+    let fragments_share = repeats(alloc, fragment_names.as_slice())?;
+    let variables_share = repeats(alloc, variable_names.as_slice())?;
     Ok(operations_share || fragments_share || variables_share)
 }
 
@@ -163,11 +141,7 @@ fn scope_for<'a>(
     ensures { IfOk result (λ scope. scope_of scope ≡ spec.scope document.now (given_values (view variables.now)) operation.now) }
 {
     let fragments = Fragments::of(alloc, fragments_of(alloc, document)?)?;
-    Ok(Scope {
-        fragments,
-        vars: operation.vars,
-        variables,
-    })
+    Scope::of(alloc, fragments, operation.vars, variables)
 }
 
 fn flat_of(

@@ -1,18 +1,24 @@
 -- The places of names.
-use Rattle.std.proofs.Common.{◌≡◌, ◌∙◌, sym, ap, refl, subst, ℕ, zero, suc, Bool, true, false, if◌then◌else◌, List, [], ◌∷◌, ◌++◌, length, map, Option, Some, None}
+use Rattle.std.proofs.Common.{◌≡◌, ◌∙◌, sym, ap, refl, subst, arith, ◌<◌, ◌+◌, ◌-◌, take, drop, get_or, ℕ, zero, suc, Bool, true, false, if◌then◌else◌, List, [], ◌∷◌, ◌++◌, length, map, Option, Some, None}
 use denote.Ref.{Bor}
-use Rattle.std.specs.Prelude.{◌||◌, option_map, option_and_then, is_some}
+use Rattle.std.specs.Prelude.{◌||◌, option_map, option_and_then, is_some, unwrap_or, find}
+use Rattle.std.specs.Option.{option_flatten}
+use Rattle.std.specs.Bool.{MatchBool}
 use Rattle.std.specs.List.{list_any, slice_get}
 use Rattle.std.specs.Str.{bytes_eq}
-use Rattle.std.specs.Ordering.{nat_cmp}
-use Rattle.std.specs.Cmp.Lexicographic.{slice_cmp}
-use Rattle.std.specs.BTreeMap.{BTreeMap, get_by, UpdatesBy}
-use Rattle.std.proofs.lemmas.List.{map-append, length-map}
+use Rattle.std.specs.BTreeMap.{BTreeMap}
+use Rattle.std.proofs.lemmas.List.{map-append, length-map, length-append, take-append-le, drop_more}
+use Rattle.std.proofs.Math.Seq.{take-length}
+use Rattle.std.proofs.lemmas.List.Recursion.{is_position_or_len}
 use Rattle.std.proofs.lemmas.Map.Text.{btree_map_updates_str}
 use Rattle.gql_scope.proofs.TruthRules.{same_text, own_text}
 use Rattle.request_model.specs.Strings.{Text}
-use Rattle.request_model.specs.Selection.{Fragment, fragment_named}
-use Rattle.gql_scope.specs.Places.{first_at, ArePlaces}
+use Rattle.request_model.specs.Selection.{Fragment, fragment_named, variable_bool, given_values, repeats}
+use Rattle.request_model.specs.declared.document.VarDef.{VarDef}
+use Rattle.serde_json.specs.View.{view}
+use Rattle.gql_scope.specs.Scopes.{Given, AreVariables}
+use Rattle.gql_scope.specs.Walks.{place_of}
+use Rattle.gql_scope.specs.Places.{first_at, place_in, ArePlaces, Learns}
 
 same_truth : (b c : Bool) → (b ≡ true → c ≡ true) → (c ≡ true → b ≡ true) → b ≡ c
 same_truth true c f g = sym (f refl)
@@ -58,33 +64,100 @@ new_by : (b : Bool) (ns : List Text) (n t : Text) → bytes_eq t n ≡ b → is_
 new_by true ns n t e h = subst (λ s. first_at (ns ++ n ∷ []) s ≡ Some (length ns)) (sym (same_text t n e)) (new_after ns n h)
 new_by false ns n t e h = other_after ns n t e
 
--- a name that is there already is added, and the map stays
-pub stays : (ns : List Text) (n : Text) (m : BTreeMap (Bor Text) ℕ) → ArePlaces ns m → is_some (get_by (λ k. slice_cmp nat_cmp n k.now) m) ≡ true → ArePlaces (ns ++ n ∷ []) m
-stays ns n m are h t = are t ∙ sym (known_by (bytes_eq t n) ns n t refl (ap is_some (sym (are n)) ∙ h))
+-- a name that is there keeps its place, and a new one gets that after the names
+below_or : (b : Bool) (o : Option ℕ) (n k : ℕ) → ((j : ℕ) → o ≡ Some j → j < n) → (if b then Some zero else option_map suc o) ≡ Some k → k < suc n
+below_or true o n k later h = let e : zero ≡ k = cc in rw (sym e) (omega arith)
+below_or false None n k later h = cc
+below_or false (Some j) n k later h = let e : suc j ≡ k = cc in rw (sym e) (let l = later j refl in omega (arith, l))
 
--- a new name is added, and the map learns its place
-pub learns : (ns : List Text) (n : Text) (m after : BTreeMap (Bor Text) ℕ) → ArePlaces ns m → is_some (get_by (λ k. slice_cmp nat_cmp n k.now) m) ≡ false →
-    UpdatesBy (λ x y. slice_cmp nat_cmp x.now y.now) (λ k. slice_cmp nat_cmp n k.now) m after (Some (length ns)) → ArePlaces (ns ++ n ∷ []) after
-learns ns n m after are h u t =
-    btree_map_updates_str n m after (Some (length ns)) u t
-    ∙ ap (λ (b : Bool). if b then Some (length ns) else get_by (λ k. slice_cmp nat_cmp t k.now) m) (turned n t)
-    ∙ ap (λ o. if bytes_eq t n then Some (length ns) else o) (are t)
-    ∙ sym (new_by (bytes_eq t n) ns n t refl (ap is_some (sym (are n)) ∙ h))
+pub place_below : (ns : List Text) (t : Text) (k : ℕ) → first_at ns t ≡ Some k → k < length ns
+place_below [] t k h = cc
+place_below (n ∷ ns) t k h = below_or (bytes_eq t n) (first_at ns t) (length ns) k (place_below ns t) h
 
-pub stays_with : (ns after : List (Bor Text)) (name : Bor Text) (key : Text) (m : BTreeMap (Bor Text) ℕ) (known : Bool) → ArePlaces (map (λ t. t.now) ns) m → after ≡ ns ++ name ∷ [] → key ≡ name.now →
-    known ≡ is_some (get_by (λ k. slice_cmp nat_cmp key k.now) m) → known ≡ true → ArePlaces (map (λ t. t.now) after) m
-stays_with ns after name key m known are e ek h known_is =
-    subst (λ xs. ArePlaces xs m) (sym (ap (map (λ t. t.now)) e ∙ map-append (λ t. t.now) ns (name ∷ [])))
-    (stays (map (λ t. t.now) ns) name.now m are (ap (λ t. is_some (get_by (λ k. slice_cmp nat_cmp t k.now) m)) (sym ek) ∙ sym h ∙ known_is))
+-- the names with one more, and the map with the place that it was found at or was given
+module _ (ns : List Text) (name : Text) (m n : BTreeMap (Bor Text) ℕ) (found : ℕ) (are : ArePlaces ns m) (is : found ≡ unwrap_or (place_in m name) (length ns)) (learnt : Learns m n name found) where
+  after : (t : Text) → place_in n t ≡ (if bytes_eq t name then Some found else first_at ns t)
+  after t =
+      btree_map_updates_str name m n (Some found) learnt t
+      ∙ ap (λ (b : Bool). if b then Some found else place_in m t) (turned name t)
+      ∙ ap (λ o. if bytes_eq t name then Some found else o) (are t)
 
-pub learns_with : (ns after : List (Bor Text)) (name : Bor Text) (key key_in : Text) (m n : BTreeMap (Bor Text) ℕ) (known : Bool) (place : ℕ) → ArePlaces (map (λ t. t.now) ns) m → after ≡ ns ++ name ∷ [] → key ≡ name.now → key_in ≡ name.now →
-    known ≡ is_some (get_by (λ k. slice_cmp nat_cmp key k.now) m) → known ≡ false → place ≡ length ns →
-    UpdatesBy (λ x y. slice_cmp nat_cmp x.now y.now) (λ k. slice_cmp nat_cmp key_in k.now) m n (Some place) → ArePlaces (map (λ t. t.now) after) n
-learns_with ns after name key key_in m n known place are e ek ein h known_is ep u =
-    subst (λ xs. ArePlaces xs n) (sym (ap (map (λ t. t.now)) e ∙ map-append (λ t. t.now) ns (name ∷ [])))
-    (learns (map (λ t. t.now) ns) name.now m n are (ap (λ t. is_some (get_by (λ k. slice_cmp nat_cmp t k.now) m)) (sym ek) ∙ sym h ∙ known_is)
-    (subst (λ p. UpdatesBy (λ x y. slice_cmp nat_cmp x.now y.now) (λ k. slice_cmp nat_cmp name.now k.now) m n (Some p)) (ep ∙ sym (length-map ns (λ t. t.now)))
-    (subst (λ t. UpdatesBy (λ x y. slice_cmp nat_cmp x.now y.now) (λ k. slice_cmp nat_cmp t k.now) m n (Some place)) ein u)))
+  kept_at : (o : Option ℕ) → first_at ns name ≡ o → is_some o ≡ true → Some found ≡ first_at ns name
+  kept_at None e h = cc
+  kept_at (Some k) e h = ap Some (is ∙ ap (λ p. unwrap_or p (length ns)) (are name ∙ e)) ∙ sym e
+
+  here_or : (b : Bool) (t : Text) → bytes_eq t name ≡ b → Some found ≡ first_at ns name → (if b then Some found else first_at ns t) ≡ first_at ns t
+  here_or true t e h = h ∙ ap (first_at ns) (sym (same_text t name e))
+  here_or false t e h = refl
+
+  -- the names as they were
+  pub were_places : is_some (first_at ns name) ≡ true → ArePlaces ns n
+  were_places h t = after t ∙ here_or (bytes_eq t name) t refl (kept_at (first_at ns name) refl h)
+
+  new_at : (o : Option ℕ) → first_at ns name ≡ o → is_some o ≡ false → found ≡ length ns
+  new_at None e h = is ∙ ap (λ p. unwrap_or p (length ns)) (are name ∙ e)
+  new_at (Some k) e h = cc
+
+  added_or : (b : Bool) → is_some (first_at ns name) ≡ b → ArePlaces (ns ++ name ∷ []) n
+  added_or true h t = were_places h t ∙ sym (known_by (bytes_eq t name) ns name t refl h)
+  added_or false h t = after t ∙ ap (λ k. if bytes_eq t name then Some k else first_at ns t) (new_at (first_at ns name) refl h) ∙ sym (new_by (bytes_eq t name) ns name t refl h)
+
+  pub added_places : ArePlaces (ns ++ name ∷ []) n
+  added_places = added_or (is_some (first_at ns name)) refl
+
+  new_or_not : (o : Option ℕ) → first_at ns name ≡ o → found ≡ length ns → is_some o ≡ false
+  new_or_not None e h = refl
+  new_or_not (Some k) e h =
+      let below = place_below ns name k e in
+      let same : found ≡ k = is ∙ ap (λ p. unwrap_or p (length ns)) (are name ∙ e) in
+      absurd (omega (arith, below, same, h))
+
+  -- the name is new where its place is that after the names
+  pub is_new : found ≡ length ns → is_some (first_at ns name) ≡ false
+  is_new h = new_or_not (first_at ns name) refl h
+
+  known_or_not : (b : Bool) → is_some (first_at ns name) ≡ b → (found ≡ length ns → ⊥) → b ≡ true
+  known_or_not true e h = refl
+  known_or_not false e h = absurd (h (new_at (first_at ns name) refl e))
+
+  pub is_known : (found ≡ length ns → ⊥) → is_some (first_at ns name) ≡ true
+  is_known h = known_or_not (is_some (first_at ns name)) refl h
+
+-- the same of borrowed names, and of a map that was asked for another copy of the name
+module _ (ns : List (Bor Text)) (name : Bor Text) (key : Text) (m n : BTreeMap (Bor Text) ℕ) (found place : ℕ) (are : ArePlaces (map (λ t. t.now) ns) m) (ek : key ≡ name.now) (ep : place ≡ length ns)
+    (is : found ≡ unwrap_or (place_in m key) place) (learnt : Learns m n key found) where
+  count : place ≡ length (map (λ t. t.now) ns)
+  count = ep ∙ sym (length-map ns (λ t. t.now))
+
+  found_is : found ≡ unwrap_or (place_in m name.now) (length (map (λ t. t.now) ns))
+  found_is = is ∙ ap (λ t. unwrap_or (place_in m t) place) ek ∙ ap (unwrap_or (place_in m name.now)) count
+
+  has_learnt : Learns m n name.now found
+  has_learnt = subst (λ t. Learns m n t found) ek learnt
+
+  pub places_put : (after : List (Bor Text)) → after ≡ ns ++ name ∷ [] → ArePlaces (map (λ t. t.now) after) n
+  places_put after e = subst (λ xs. ArePlaces xs n) (sym (ap (map (λ t. t.now)) e ∙ map-append (λ t. t.now) ns (name ∷ []))) (added_places (map (λ t. t.now) ns) name.now m n found are found_is has_learnt)
+
+  pub places_kept : (after : List (Bor Text)) → after ≡ ns → (found ≡ place → ⊥) → ArePlaces (map (λ t. t.now) after) n
+  places_kept after e other =
+      subst (λ xs. ArePlaces (map (λ t. t.now) xs) n) (sym e)
+      (were_places (map (λ t. t.now) ns) name.now m n found are found_is has_learnt (is_known (map (λ t. t.now) ns) name.now m n found are found_is has_learnt (λ h. other (h ∙ sym count))))
+
+  pub put_new_one : found ≡ place → is_some (first_at (map (λ t. t.now) ns) name.now) ≡ false
+  put_new_one h = is_new (map (λ t. t.now) ns) name.now m n found are found_is has_learnt (h ∙ count)
+
+  pub kept_known : (found ≡ place → ⊥) → is_some (first_at (map (λ t. t.now) ns) name.now) ≡ true
+  kept_known other = is_known (map (λ t. t.now) ns) name.now m n found are found_is has_learnt (λ h. other (h ∙ sym count))
+
+-- one is added and taken again
+pub taken_again : (ns added taken : List (Bor Text)) (n : Bor Text) (count : ℕ) → added ≡ ns ++ n ∷ [] → count ≡ length added → taken ≡ take (count - 1) added → taken ≡ ns
+taken_again ns added taken n count e ec et =
+    let longer : length added ≡ length ns + 1 = ap length e ∙ length-append ns (n ∷ []) in
+    let less : count - 1 ≡ length ns = omega (arith, longer, ec) in
+    et ∙ ap (λ k. take k added) less ∙ ap (take (length ns)) e ∙ take-append-le (length ns) ns (n ∷ []) (omega arith) ∙ take-length ns
+
+pub added_names : (ns added : List (Bor Text)) (n : Bor Text) → added ≡ ns ++ n ∷ [] → map (λ t. t.now) added ≡ map (λ t. t.now) ns ++ n.now ∷ []
+added_names ns added n e = ap (map (λ t. t.now)) e ∙ map-append (λ t. t.now) ns (n ∷ [])
 
 -- ---- a name is looked up
 
@@ -114,3 +187,118 @@ found_in now items read names t place found en em ep er ef =
 
 pub not_in : (now items : List Fragment) (names : List Text) (t : Text) → items ≡ now → names ≡ map (λ (f : Fragment). f.name) items → None ≡ first_at names t → None ≡ fragment_named now t
 not_in now items names t en em ep = ap (option_and_then (slice_get items)) (ep ∙ ap (λ ns. first_at ns t) em) ∙ found_at items t ∙ ap (λ fs. fragment_named fs t) en
+
+-- ---- what is found at a place
+
+then_or : {X Y : Type 0} (f : X → Option Y) (b : Bool) (x : X) (o : Option X) (p : Option Y) → option_and_then f o ≡ p → (if b then f x else p) ≡ option_and_then f (if b then Some x else o)
+then_or f true x o p h = refl
+then_or f false x o p h = sym h
+
+flat_or : (f : VarDef → Option Bool) (b : Bool) (v : VarDef) (bs : List (Option Bool)) (o : Option ℕ) (p : Option Bool) → option_and_then (λ k. option_flatten (slice_get bs k)) o ≡ p →
+    option_and_then (λ k. option_flatten (slice_get (f v ∷ bs) k)) (if b then Some zero else option_map suc o) ≡ (if b then f v else p)
+flat_or f true v bs o p h = refl
+flat_or f false v bs (Some k) p h = h
+flat_or f false v bs None p h = h
+
+-- what a function gives of the first variable of a name
+pub of_first : (f : VarDef → Option Bool) (vs : List VarDef) (t : Text) →
+    option_and_then (λ k. option_flatten (slice_get (map f vs) k)) (first_at (map (λ (v : VarDef). v.name) vs) t) ≡ option_and_then f (find (λ (v : VarDef). bytes_eq t v.name) vs)
+of_first f [] t = refl
+of_first f (v ∷ vs) t =
+    flat_or f (bytes_eq t v.name) v (map f vs) (first_at (map (λ (v : VarDef). v.name) vs) t) _ (of_first f vs t)
+    ∙ then_or f (bytes_eq t v.name) v (find (λ (v : VarDef). bytes_eq t v.name) vs) _ refl
+
+-- the place of the first fragment of a name, or their number
+count_or : (b : Bool) (o : Option ℕ) (n more : ℕ) → more ≡ 1 + n → unwrap_or (if b then Some zero else option_map suc o) more ≡ (if b then 0 else 1 + unwrap_or o n)
+count_or true o n more h = refl
+count_or false (Some k) n more h = omega arith
+count_or false None n more h = h
+
+pub first_or_count : (fs : List Fragment) (t : Text) → unwrap_or (first_at (map (λ (f : Fragment). f.name) fs) t) (length fs) ≡ place_of fs t
+first_or_count fs t =
+    is_position_or_len (λ gs. unwrap_or (first_at (map (λ (f : Fragment). f.name) gs) t) (length gs)) (λ (f : Fragment). bytes_eq t f.name) refl
+    (λ g gs. count_or (bytes_eq t g.name) (first_at (map (λ (f : Fragment). f.name) gs) t) (length gs) (length (g ∷ gs)) (omega arith)) fs
+
+pub place_or_count : (now items : List Fragment) (names : List Text) (t : Text) (o : Option ℕ) (count : ℕ) → items ≡ now → names ≡ map (λ (f : Fragment). f.name) items → o ≡ first_at names t → count ≡ length items → unwrap_or o count ≡ place_of now t
+place_or_count now items names t o count en em eo ec =
+    ap (λ p. unwrap_or p count) eo ∙ ap (λ ns. unwrap_or (first_at ns t) count) em ∙ ap (unwrap_or (first_at (map (λ (f : Fragment). f.name) items) t)) ec
+    ∙ first_or_count items t ∙ ap (λ fs. place_of fs t) en
+
+-- what the variable of a name decides
+module _ (now : Given) (names : List Text) (booleans : List (Option Bool)) (t : Text) (are : AreVariables now.variables now.vars names booleans) where
+  abbrev pub decided : Option Bool
+  decided = option_and_then (variable_bool (given_values (view now.variables))) (find (λ (v : VarDef). bytes_eq t v.name) now.vars)
+
+  named_at : (o : Option ℕ) → o ≡ first_at names t → option_and_then (λ k. option_flatten (slice_get booleans k)) o ≡ decided
+  named_at o e =
+      ap (option_and_then (λ k. option_flatten (slice_get booleans k))) (e ∙ ap (λ ns. first_at ns t) are.names_are)
+      ∙ ap (λ bs. option_and_then (λ k. option_flatten (slice_get bs k)) (first_at (map (λ (v : VarDef). v.name) now.vars) t)) are.booleans_are
+      ∙ of_first (variable_bool (given_values (view now.variables))) now.vars t
+
+  pub some_named : (place : ℕ) (read : List (Option Bool)) (found : Option Bool) → Some place ≡ first_at names t → read ≡ booleans → found ≡ option_flatten (slice_get read place) → found ≡ decided
+  some_named place read found e er ef = ef ∙ ap (λ bs. option_flatten (slice_get bs place)) er ∙ named_at (Some place) e
+
+  pub none_named : None ≡ first_at names t → None ≡ decided
+  none_named e = named_at None e
+
+-- ---- names that repeat
+
+-- one of the names is among those that were seen, or two of them are the same
+abbrev pub some_again : List Text → List Text → Bool
+some_again seen names = list_any (λ t. list_any (bytes_eq t) seen) names || repeats names
+
+any_more : (t u : Text) (seen : List Text) → list_any (bytes_eq u) (seen ++ t ∷ []) ≡ (list_any (bytes_eq u) seen || bytes_eq t u)
+any_more t u [] = or_none (bytes_eq u t) ∙ turned u t
+  where
+    or_none : (b : Bool) → (b || false) ≡ b
+    or_none true = refl
+    or_none false = refl
+any_more t u (s ∷ seen) = ap (λ b. bytes_eq u s || b) (any_more t u seen) ∙ or_or (bytes_eq u s) (list_any (bytes_eq u) seen) (bytes_eq t u)
+  where
+    or_or : (a b c : Bool) → (a || (b || c)) ≡ ((a || b) || c)
+    or_or true b c = refl
+    or_or false b c = refl
+
+any_either : (t : Text) (seen ns : List Text) → list_any (λ u. list_any (bytes_eq u) (seen ++ t ∷ [])) ns ≡ (list_any (λ u. list_any (bytes_eq u) seen) ns || list_any (bytes_eq t) ns)
+any_either t seen [] = refl
+any_either t seen (u ∷ us) =
+    ap (λ b. b || list_any (λ v. list_any (bytes_eq v) (seen ++ t ∷ [])) us) (any_more t u seen)
+    ∙ ap (λ b. (list_any (bytes_eq u) seen || bytes_eq t u) || b) (any_either t seen us)
+    ∙ mixed (list_any (bytes_eq u) seen) (bytes_eq t u) (list_any (λ v. list_any (bytes_eq v) seen) us) (list_any (bytes_eq t) us)
+  where
+    mixed : (a b c d : Bool) → ((a || b) || (c || d)) ≡ ((a || c) || (b || d))
+    mixed true b c d = refl
+    mixed false true true d = refl
+    mixed false true false d = refl
+    mixed false false c d = refl
+
+grouped : (a b c : Bool) → ((a || b) || c) ≡ (a || (b || c))
+grouped true b c = refl
+grouped false b c = refl
+
+-- a name that wasn't seen is seen now
+again_after : (t : Text) (seen ns : List Text) → list_any (bytes_eq t) seen ≡ false → some_again seen (t ∷ ns) ≡ some_again (seen ++ t ∷ []) ns
+again_after t seen ns new =
+    ap (λ b. (b || list_any (λ u. list_any (bytes_eq u) seen) ns) || (list_any (bytes_eq t) ns || repeats ns)) new
+    ∙ sym (grouped (list_any (λ u. list_any (bytes_eq u) seen) ns) (list_any (bytes_eq t) ns) (repeats ns))
+    ∙ sym (ap (λ b. b || repeats ns) (any_either t seen ns))
+
+again_step : (first : Bool) (t : Text) (seen after ns : List Text) → first ≡ true →
+    MatchBool first ((list_any (bytes_eq t) seen ≡ false) × (after ≡ seen ++ t ∷ [])) ((list_any (bytes_eq t) seen ≡ true) × (after ≡ seen)) → some_again after ns ≡ some_again seen (t ∷ ns)
+again_step true t seen after ns e h = ap (λ s. some_again s ns) h.1 ∙ sym (again_after t seen ns h.0)
+again_step false t seen after ns e h = cc
+
+pub again_step_at : (names : List (Bor Text)) (i : ℕ) (name : Bor Text) (first : Bool) (seen after : List Text) → i < length names → name ≡ get_or names i name → first ≡ true →
+    MatchBool first ((list_any (bytes_eq name.now) seen ≡ false) × (after ≡ seen ++ name.now ∷ [])) ((list_any (bytes_eq name.now) seen ≡ true) × (after ≡ seen)) →
+    some_again after (map (λ n. n.now) (drop (i + 1) names)) ≡ some_again seen (map (λ n. n.now) (drop i names))
+again_step_at names i name first seen after lt e new h =
+    again_step first name.now seen after (map (λ n. n.now) (drop (i + 1) names)) new h
+    ∙ ap (λ n. some_again seen (map (λ m. m.now) (n ∷ drop (i + 1) names))) e
+    ∙ sym (ap (λ ns. some_again seen (map (λ n. n.now) ns)) (drop_more names i name lt))
+
+pub none_again : (ns : List Text) → some_again [] ns ≡ repeats ns
+none_again ns = ap (λ b. b || repeats ns) (none ns)
+  where
+    none : (ns : List Text) → list_any (λ u. list_any (bytes_eq u) []) ns ≡ false
+    none [] = refl
+    none (n ∷ ns) = none ns

@@ -1,9 +1,10 @@
 //! Fragments, which are found by their names.
 
-ghost use Rattle.std.specs.Prelude.{◌≡◌, map, IfOk};
+ghost use Rattle.std.specs.Prelude.{◌≡◌, map, length, IfOk};
 ghost use Rattle.std.specs.List.{slice_get};
 ghost use Rattle.std.specs.Option.{option_copied};
 ghost use Rattle.request_model.specs.Selection as spec;
+ghost use Rattle.gql_scope.specs.Walks.{place_of};
 
 use crate::names::Names;
 use crate::operation::Fragment;
@@ -63,6 +64,19 @@ impl<'a> Fragments<'a> {
         ensures { result.now ≡ self.now }
     {
         self.items.as_slice()
+    }
+
+    pub fn count(&self) -> usize
+        ensures { result ≡ length self.now }
+    {
+        self.items.len()
+    }
+
+    /// The place of the first fragment of a name, or the number of fragments.
+    pub fn place_or_count(&self, name: &str) -> usize
+        ensures { result ≡ place_of self.now name.now }
+    {
+        self.names.place(name).unwrap_or(self.items.len())
     }
 
     /// The first fragment of a name.

@@ -14,7 +14,7 @@ mod walks;
 
 pub use fragments::Fragments;
 pub use lists::add;
-pub use names::Names;
+pub use names::{Names, repeats};
 pub use operation::{Fragment, Operation, chosen, fragments_of, operations_of, same};
 pub use refusals::first_refusal;
 pub use scope::Scope;

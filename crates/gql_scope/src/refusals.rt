@@ -28,7 +28,7 @@ fn reach_of(alloc: Global, scope: &Scope<'_>, operation: &Operation<'_>) -> Resu
     ensures len { IfOk result (λ reach. length reach.marks.items ≡ length (scope_of scope.now).fragments) }
     ensures marks { IfOk result (λ reach. AreReached (scope_of scope.now).fragments operation.now.select reach.marks.items) }
 {
-    let fragments = scope.fragments.as_slice();
+    let fragments = &scope.fragments;
     let edges = edges_of(alloc, fragments)?;
     let start = targets_of(alloc, fragments, operation.select)?;
     let marks = reached(alloc, edges.as_slice(), start.as_slice())?;

@@ -1,23 +1,51 @@
 //! What decides the conditions of directives and the fragments that spreads name.
 
-ghost use Rattle.std.specs.Prelude.{◌≡◌, Some, None, find, option_and_then};
+ghost use Rattle.std.specs.Prelude.{◌≡◌, Some, None, find, map, length, option_and_then, IfOk};
+ghost use Rattle.std.specs.List.{slice_get};
 ghost use Rattle.std.specs.Str.{bytes_eq};
-ghost use Rattle.std.specs.Option.{option_copied};
+ghost use Rattle.std.specs.Option.{option_copied, option_flatten};
+ghost use Rattle.serde_json.specs.View.{view};
 ghost use Rattle.request_model.specs.Selection as spec;
+ghost use Rattle.request_model.specs.Selection.{given_values};
 ghost use Rattle.request_model.specs.declared.document.VarDef.{VarDef};
 ghost use Rattle.gql_scope.specs.Scopes.{scope_of};
 
 use crate::fragments::Fragments;
+use crate::names::Names;
 use crate::operation::{Fragment, same};
 use request_model::{Directive, GPair, GValue, VarDef};
+use scalar_val::NoMemory;
 use serde_json::Value;
+use std::alloc::Global;
+use std::marker::Model;
 
-/// The fragments of a document, the variables of an operation, and the values that are given for them.
+/// The fragments of a document, the variables of an operation, and the values that are given for them. What a
+/// variable's value decides is found by the variable's name, in logarithmic time.
 #[derive(Drop)]
 pub struct Scope<'a> {
     pub fragments: Fragments<'a>,
-    pub vars: &'a [VarDef],
-    pub variables: &'a Value,
+    vars: &'a [VarDef],
+    variables: &'a Value,
+    names: Names<'a>,
+    booleans: Vec<Option<bool>>,
+}
+
+impl<'a> Model for Scope<'a> {
+    ghost use Rattle.std.specs.Coded.{codes};
+    ghost use Rattle.serde_json.specs.contracts.value.Value as value;
+    ghost use Rattle.request_model.specs.contracts.document.GValue as gvalue;
+    ghost use Rattle.request_model.specs.contracts.document.GPair as gpair;
+    ghost use Rattle.request_model.specs.contracts.document.TypeRef as type_ref;
+    ghost use Rattle.request_model.specs.contracts.document.Selection as selection;
+    ghost use Rattle.gql_scope.specs.Scopes.{Given, AreVariables};
+
+    ghost Value = { Given };
+
+    ghost coded = { Prim.hlevel (codes, gvalue.the_row.coded, gpair.the_row.coded, type_ref.the_row.coded, selection.the_row.coded, value.the_row.coded) };
+
+    ghost view = { λ s. record { fragments = s.fragments; vars = s.vars.now; variables = s.variables.now } };
+
+    ghost invariant = { λ s. AreVariables s.variables.now s.vars.now s.names s.booleans.items };
 }
 
 fn literal_bool(value: &GValue) -> Option<bool>
@@ -41,7 +69,78 @@ pub fn is_include(directive: &Directive) -> bool
     same(directive.name.as_str(), "include")
 }
 
+fn variable_bool(variables: &Value, variable: &VarDef) -> Option<bool>
+    ensures { result ≡ spec.variable_bool (given_values (view variables.now)) variable.now }
+{
+    match variables.get(variable.name.as_str()) {
+        Some(given) => given.as_bool(),
+        None => literal_bool(variable.default.as_ref()?),
+    }
+}
+
+fn names_of(alloc: Global, vars: &[VarDef]) -> Result<Names<'_>, NoMemory>
+    ensures { IfOk result (λ names. names ≡ map (λ (v : VarDef). v.name) vars.now) }
+{
+    let mut names = Names::new(alloc);
+    for variable in vars {
+        names.push(&variable.name)?;
+    }
+    Ok(names)
+}
+
+fn booleans_of(
+    alloc: Global,
+    variables: &Value,
+    vars: &[VarDef],
+) -> Result<Vec<Option<bool>>, NoMemory>
+    ensures { IfOk result (λ booleans. booleans.items ≡ map (spec.variable_bool (given_values (view variables.now))) vars.now) }
+{
+    let mut booleans = Vec::new(alloc);
+    for variable in vars {
+        booleans.push(variable_bool(variables, variable))?;
+    }
+    Ok(booleans)
+}
+
+fn boolean_at(booleans: &[Option<bool>], place: usize) -> Option<bool>
+    ensures { result ≡ option_flatten (slice_get booleans.now place) }
+{
+    booleans.get(place).copied().flatten()
+}
+
 impl<'a> Scope<'a> {
+    pub fn of(
+        alloc: Global,
+        fragments: Fragments<'a>,
+        vars: &'a [VarDef],
+        variables: &'a Value,
+    ) -> Result<Scope<'a>, NoMemory>
+        ensures { IfOk result (λ s. scope_of s ≡ record { fragments = fragments.entry; vars = vars.now; values = given_values (view variables.now) }) }
+    {
+        let names = names_of(alloc, vars)?;
+        let booleans = booleans_of(alloc, variables, vars)?;
+        Ok(Scope {
+            fragments,
+            vars,
+            variables,
+            names,
+            booleans,
+        })
+    }
+
+    /// The variables of the operation.
+    pub fn vars(&self) -> &'a [VarDef]
+        ensures { result.now ≡ (scope_of self.now).vars }
+    {
+        self.vars
+    }
+
+    pub fn fragment_count(&self) -> usize
+        ensures { result ≡ length (scope_of self.now).fragments }
+    {
+        self.fragments.count()
+    }
+
     /// The first fragment of a name.
     pub fn fragment(&self, name: &str) -> Option<&Fragment<'a>>
         ensures { option_copied result ≡ spec.fragment_named (scope_of self.now).fragments name.now }
@@ -49,31 +148,11 @@ impl<'a> Scope<'a> {
         self.fragments.named(name)
     }
 
-    fn variable(&self, name: &str) -> Option<&'a VarDef>
-        ensures { option_copied result ≡ find (λ (v : VarDef). bytes_eq name.now v.name) (scope_of self.now).vars }
-    {
-        for variable in self.vars {
-            if same(name, variable.name.as_str()) {
-                return Some(variable);
-            }
-        }
-        None
-    }
-
-    fn variable_bool(&self, variable: &VarDef) -> Option<bool>
-        ensures { result ≡ spec.variable_bool (scope_of self.now).values variable.now }
-    {
-        match self.variables.get(variable.name.as_str()) {
-            Some(given) => given.as_bool(),
-            None => literal_bool(variable.default.as_ref()?),
-        }
-    }
-
     fn named_bool(&self, name: &str) -> Option<bool>
         ensures { result ≡ option_and_then (spec.variable_bool (scope_of self.now).values) (find (λ (v : VarDef). bytes_eq name.now v.name) (scope_of self.now).vars) }
     {
-        match self.variable(name) {
-            Some(variable) => self.variable_bool(variable),
+        match self.names.place(name) {
+            Some(place) => boolean_at(self.booleans.as_slice(), place),
             None => None,
         }
     }

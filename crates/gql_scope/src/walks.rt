@@ -6,8 +6,9 @@ ghost use Rattle.request_model.specs.Selection as spec;
 ghost use Rattle.gql_scope.specs.Scopes.{scope_of};
 ghost use Rattle.gql_scope.specs.Walks.{place_of, targets_of, edges_of, fails, some_marked_fails};
 
+use crate::fragments::Fragments;
 use crate::lists::add;
-use crate::operation::{Fragment, Operation, same};
+use crate::operation::{Fragment, Operation};
 use crate::scope::{Scope, is_include, is_skip};
 use crate::spreads::{put_directives, put_spreads};
 use request_model::{Directive, FlatFault, Selection, VarDef};
@@ -25,22 +26,10 @@ pub enum Check {
     Booleans,
 }
 
-/// The place of the first fragment of a name, or the number of fragments.
-fn place_of(fragments: &[Fragment<'_>], name: &str) -> usize
-    ensures { result ≡ place_of fragments.now name.now }
-{
-    for (index, fragment) in fragments.iter().enumerate() {
-        if same(name, fragment.name.as_str()) {
-            return index;
-        }
-    }
-    fragments.len()
-}
-
 /// The places of the fragments that are spread.
 pub fn targets_of(
     alloc: Global,
-    fragments: &[Fragment<'_>],
+    fragments: &Fragments<'_>,
     set: &[Selection],
 ) -> Result<List<usize>, NoMemory>
     ensures { IfOk result (λ targets. targets ≡ targets_of fragments.now set.now) }
@@ -52,7 +41,7 @@ pub fn targets_of(
 
 fn places_of(
     alloc: Global,
-    fragments: &[Fragment<'_>],
+    fragments: &Fragments<'_>,
     names: &[&Str],
 ) -> Result<List<usize>, NoMemory>
     ensures { IfOk result (λ places. places ≡ filter (λ k. nat_lt k (length fragments.now)) (map (place_of fragments.now) (map (λ n. n.now) names.now))) }
@@ -61,8 +50,8 @@ fn places_of(
     for name in names {
         add_known(
             &mut places,
-            place_of(fragments, name.as_str()),
-            fragments.len(),
+            fragments.place_or_count(name.as_str()),
+            fragments.count(),
         )?;
     }
     Ok(places)
@@ -77,11 +66,11 @@ fn add_known(places: &mut List<usize>, place: usize, count: usize) -> Result<(),
     add(places, place)
 }
 
-pub fn edges_of(alloc: Global, fragments: &[Fragment<'_>]) -> Result<Vec<List<usize>>, NoMemory>
+pub fn edges_of(alloc: Global, fragments: &Fragments<'_>) -> Result<Vec<List<usize>>, NoMemory>
     ensures { IfOk result (λ edges. edges.items ≡ edges_of fragments.now) }
 {
     let mut edges = Vec::new(alloc);
-    for fragment in fragments {
+    for fragment in fragments.as_slice() {
         edges.push(targets_of(alloc, fragments, fragment.select)?)?;
     }
     Ok(edges)
