@@ -1,18 +1,17 @@
 -- The places of names.
-use Rattle.std.proofs.Common.{◌≡◌, ◌∙◌, sym, ap, refl, subst, ℕ, zero, suc, Bool, true, false, if◌then◌else◌, List, [], ◌∷◌, ◌++◌, length, map, Option, Some, None}
+use Rattle.std.proofs.Common.{◌≡◌, ◌∙◌, sym, ap, refl, subst, arith, ◌<◌, ◌+◌, ◌-◌, take, ℕ, zero, suc, Bool, true, false, if◌then◌else◌, List, [], ◌∷◌, ◌++◌, length, map, Option, Some, None}
 use denote.Ref.{Bor}
-use Rattle.std.specs.Prelude.{◌||◌, option_map, option_and_then, is_some}
+use Rattle.std.specs.Prelude.{◌||◌, option_map, option_and_then, is_some, unwrap_or}
 use Rattle.std.specs.List.{list_any, slice_get}
 use Rattle.std.specs.Str.{bytes_eq}
-use Rattle.std.specs.Ordering.{nat_cmp}
-use Rattle.std.specs.Cmp.Lexicographic.{slice_cmp}
-use Rattle.std.specs.BTreeMap.{BTreeMap, get_by, UpdatesBy}
-use Rattle.std.proofs.lemmas.List.{map-append, length-map}
+use Rattle.std.specs.BTreeMap.{BTreeMap}
+use Rattle.std.proofs.lemmas.List.{map-append, length-map, length-append, take-append-le}
+use Rattle.std.proofs.Math.Seq.{take-length}
 use Rattle.std.proofs.lemmas.Map.Text.{btree_map_updates_str}
 use Rattle.gql_scope.proofs.TruthRules.{same_text, own_text}
 use Rattle.request_model.specs.Strings.{Text}
 use Rattle.request_model.specs.Selection.{Fragment, fragment_named}
-use Rattle.gql_scope.specs.Places.{first_at, ArePlaces}
+use Rattle.gql_scope.specs.Places.{first_at, place_in, ArePlaces, Learns}
 
 same_truth : (b c : Bool) → (b ≡ true → c ≡ true) → (c ≡ true → b ≡ true) → b ≡ c
 same_truth true c f g = sym (f refl)
@@ -58,33 +57,100 @@ new_by : (b : Bool) (ns : List Text) (n t : Text) → bytes_eq t n ≡ b → is_
 new_by true ns n t e h = subst (λ s. first_at (ns ++ n ∷ []) s ≡ Some (length ns)) (sym (same_text t n e)) (new_after ns n h)
 new_by false ns n t e h = other_after ns n t e
 
--- a name that is there already is added, and the map stays
-pub stays : (ns : List Text) (n : Text) (m : BTreeMap (Bor Text) ℕ) → ArePlaces ns m → is_some (get_by (λ k. slice_cmp nat_cmp n k.now) m) ≡ true → ArePlaces (ns ++ n ∷ []) m
-stays ns n m are h t = are t ∙ sym (known_by (bytes_eq t n) ns n t refl (ap is_some (sym (are n)) ∙ h))
+-- a name that is there keeps its place, and a new one gets that after the names
+below_or : (b : Bool) (o : Option ℕ) (n k : ℕ) → ((j : ℕ) → o ≡ Some j → j < n) → (if b then Some zero else option_map suc o) ≡ Some k → k < suc n
+below_or true o n k later h = let e : zero ≡ k = cc in rw (sym e) (omega arith)
+below_or false None n k later h = cc
+below_or false (Some j) n k later h = let e : suc j ≡ k = cc in rw (sym e) (let l = later j refl in omega (arith, l))
 
--- a new name is added, and the map learns its place
-pub learns : (ns : List Text) (n : Text) (m after : BTreeMap (Bor Text) ℕ) → ArePlaces ns m → is_some (get_by (λ k. slice_cmp nat_cmp n k.now) m) ≡ false →
-    UpdatesBy (λ x y. slice_cmp nat_cmp x.now y.now) (λ k. slice_cmp nat_cmp n k.now) m after (Some (length ns)) → ArePlaces (ns ++ n ∷ []) after
-learns ns n m after are h u t =
-    btree_map_updates_str n m after (Some (length ns)) u t
-    ∙ ap (λ (b : Bool). if b then Some (length ns) else get_by (λ k. slice_cmp nat_cmp t k.now) m) (turned n t)
-    ∙ ap (λ o. if bytes_eq t n then Some (length ns) else o) (are t)
-    ∙ sym (new_by (bytes_eq t n) ns n t refl (ap is_some (sym (are n)) ∙ h))
+pub place_below : (ns : List Text) (t : Text) (k : ℕ) → first_at ns t ≡ Some k → k < length ns
+place_below [] t k h = cc
+place_below (n ∷ ns) t k h = below_or (bytes_eq t n) (first_at ns t) (length ns) k (place_below ns t) h
 
-pub stays_with : (ns after : List (Bor Text)) (name : Bor Text) (key : Text) (m : BTreeMap (Bor Text) ℕ) (known : Bool) → ArePlaces (map (λ t. t.now) ns) m → after ≡ ns ++ name ∷ [] → key ≡ name.now →
-    known ≡ is_some (get_by (λ k. slice_cmp nat_cmp key k.now) m) → known ≡ true → ArePlaces (map (λ t. t.now) after) m
-stays_with ns after name key m known are e ek h known_is =
-    subst (λ xs. ArePlaces xs m) (sym (ap (map (λ t. t.now)) e ∙ map-append (λ t. t.now) ns (name ∷ [])))
-    (stays (map (λ t. t.now) ns) name.now m are (ap (λ t. is_some (get_by (λ k. slice_cmp nat_cmp t k.now) m)) (sym ek) ∙ sym h ∙ known_is))
+-- the names with one more, and the map with the place that it was found at or was given
+module _ (ns : List Text) (name : Text) (m n : BTreeMap (Bor Text) ℕ) (found : ℕ) (are : ArePlaces ns m) (is : found ≡ unwrap_or (place_in m name) (length ns)) (learnt : Learns m n name found) where
+  after : (t : Text) → place_in n t ≡ (if bytes_eq t name then Some found else first_at ns t)
+  after t =
+      btree_map_updates_str name m n (Some found) learnt t
+      ∙ ap (λ (b : Bool). if b then Some found else place_in m t) (turned name t)
+      ∙ ap (λ o. if bytes_eq t name then Some found else o) (are t)
 
-pub learns_with : (ns after : List (Bor Text)) (name : Bor Text) (key key_in : Text) (m n : BTreeMap (Bor Text) ℕ) (known : Bool) (place : ℕ) → ArePlaces (map (λ t. t.now) ns) m → after ≡ ns ++ name ∷ [] → key ≡ name.now → key_in ≡ name.now →
-    known ≡ is_some (get_by (λ k. slice_cmp nat_cmp key k.now) m) → known ≡ false → place ≡ length ns →
-    UpdatesBy (λ x y. slice_cmp nat_cmp x.now y.now) (λ k. slice_cmp nat_cmp key_in k.now) m n (Some place) → ArePlaces (map (λ t. t.now) after) n
-learns_with ns after name key key_in m n known place are e ek ein h known_is ep u =
-    subst (λ xs. ArePlaces xs n) (sym (ap (map (λ t. t.now)) e ∙ map-append (λ t. t.now) ns (name ∷ [])))
-    (learns (map (λ t. t.now) ns) name.now m n are (ap (λ t. is_some (get_by (λ k. slice_cmp nat_cmp t k.now) m)) (sym ek) ∙ sym h ∙ known_is)
-    (subst (λ p. UpdatesBy (λ x y. slice_cmp nat_cmp x.now y.now) (λ k. slice_cmp nat_cmp name.now k.now) m n (Some p)) (ep ∙ sym (length-map ns (λ t. t.now)))
-    (subst (λ t. UpdatesBy (λ x y. slice_cmp nat_cmp x.now y.now) (λ k. slice_cmp nat_cmp t k.now) m n (Some place)) ein u)))
+  kept_at : (o : Option ℕ) → first_at ns name ≡ o → is_some o ≡ true → Some found ≡ first_at ns name
+  kept_at None e h = cc
+  kept_at (Some k) e h = ap Some (is ∙ ap (λ p. unwrap_or p (length ns)) (are name ∙ e)) ∙ sym e
+
+  here_or : (b : Bool) (t : Text) → bytes_eq t name ≡ b → Some found ≡ first_at ns name → (if b then Some found else first_at ns t) ≡ first_at ns t
+  here_or true t e h = h ∙ ap (first_at ns) (sym (same_text t name e))
+  here_or false t e h = refl
+
+  -- the names as they were
+  pub were_places : is_some (first_at ns name) ≡ true → ArePlaces ns n
+  were_places h t = after t ∙ here_or (bytes_eq t name) t refl (kept_at (first_at ns name) refl h)
+
+  new_at : (o : Option ℕ) → first_at ns name ≡ o → is_some o ≡ false → found ≡ length ns
+  new_at None e h = is ∙ ap (λ p. unwrap_or p (length ns)) (are name ∙ e)
+  new_at (Some k) e h = cc
+
+  added_or : (b : Bool) → is_some (first_at ns name) ≡ b → ArePlaces (ns ++ name ∷ []) n
+  added_or true h t = were_places h t ∙ sym (known_by (bytes_eq t name) ns name t refl h)
+  added_or false h t = after t ∙ ap (λ k. if bytes_eq t name then Some k else first_at ns t) (new_at (first_at ns name) refl h) ∙ sym (new_by (bytes_eq t name) ns name t refl h)
+
+  pub added_places : ArePlaces (ns ++ name ∷ []) n
+  added_places = added_or (is_some (first_at ns name)) refl
+
+  new_or_not : (o : Option ℕ) → first_at ns name ≡ o → found ≡ length ns → is_some o ≡ false
+  new_or_not None e h = refl
+  new_or_not (Some k) e h =
+      let below = place_below ns name k e in
+      let same : found ≡ k = is ∙ ap (λ p. unwrap_or p (length ns)) (are name ∙ e) in
+      absurd (omega (arith, below, same, h))
+
+  -- the name is new where its place is that after the names
+  pub is_new : found ≡ length ns → is_some (first_at ns name) ≡ false
+  is_new h = new_or_not (first_at ns name) refl h
+
+  known_or_not : (b : Bool) → is_some (first_at ns name) ≡ b → (found ≡ length ns → ⊥) → b ≡ true
+  known_or_not true e h = refl
+  known_or_not false e h = absurd (h (new_at (first_at ns name) refl e))
+
+  pub is_known : (found ≡ length ns → ⊥) → is_some (first_at ns name) ≡ true
+  is_known h = known_or_not (is_some (first_at ns name)) refl h
+
+-- the same of borrowed names, and of a map that was asked for another copy of the name
+module _ (ns : List (Bor Text)) (name : Bor Text) (key : Text) (m n : BTreeMap (Bor Text) ℕ) (found place : ℕ) (are : ArePlaces (map (λ t. t.now) ns) m) (ek : key ≡ name.now) (ep : place ≡ length ns)
+    (is : found ≡ unwrap_or (place_in m key) place) (learnt : Learns m n key found) where
+  count : place ≡ length (map (λ t. t.now) ns)
+  count = ep ∙ sym (length-map ns (λ t. t.now))
+
+  found_is : found ≡ unwrap_or (place_in m name.now) (length (map (λ t. t.now) ns))
+  found_is = is ∙ ap (λ t. unwrap_or (place_in m t) place) ek ∙ ap (unwrap_or (place_in m name.now)) count
+
+  has_learnt : Learns m n name.now found
+  has_learnt = subst (λ t. Learns m n t found) ek learnt
+
+  pub places_put : (after : List (Bor Text)) → after ≡ ns ++ name ∷ [] → ArePlaces (map (λ t. t.now) after) n
+  places_put after e = subst (λ xs. ArePlaces xs n) (sym (ap (map (λ t. t.now)) e ∙ map-append (λ t. t.now) ns (name ∷ []))) (added_places (map (λ t. t.now) ns) name.now m n found are found_is has_learnt)
+
+  pub places_kept : (after : List (Bor Text)) → after ≡ ns → (found ≡ place → ⊥) → ArePlaces (map (λ t. t.now) after) n
+  places_kept after e other =
+      subst (λ xs. ArePlaces (map (λ t. t.now) xs) n) (sym e)
+      (were_places (map (λ t. t.now) ns) name.now m n found are found_is has_learnt (is_known (map (λ t. t.now) ns) name.now m n found are found_is has_learnt (λ h. other (h ∙ sym count))))
+
+  pub put_new_one : found ≡ place → is_some (first_at (map (λ t. t.now) ns) name.now) ≡ false
+  put_new_one h = is_new (map (λ t. t.now) ns) name.now m n found are found_is has_learnt (h ∙ count)
+
+  pub kept_known : (found ≡ place → ⊥) → is_some (first_at (map (λ t. t.now) ns) name.now) ≡ true
+  kept_known other = is_known (map (λ t. t.now) ns) name.now m n found are found_is has_learnt (λ h. other (h ∙ sym count))
+
+-- one is added and taken again
+pub taken_again : (ns added taken : List (Bor Text)) (n : Bor Text) (count : ℕ) → added ≡ ns ++ n ∷ [] → count ≡ length added → taken ≡ take (count - 1) added → taken ≡ ns
+taken_again ns added taken n count e ec et =
+    let longer : length added ≡ length ns + 1 = ap length e ∙ length-append ns (n ∷ []) in
+    let less : count - 1 ≡ length ns = omega (arith, longer, ec) in
+    et ∙ ap (λ k. take k added) less ∙ ap (take (length ns)) e ∙ take-append-le (length ns) ns (n ∷ []) (omega arith) ∙ take-length ns
+
+pub added_names : (ns added : List (Bor Text)) (n : Bor Text) → added ≡ ns ++ n ∷ [] → map (λ t. t.now) added ≡ map (λ t. t.now) ns ++ n.now ∷ []
+added_names ns added n e = ap (map (λ t. t.now)) e ∙ map-append (λ t. t.now) ns (n ∷ [])
 
 -- ---- a name is looked up
 

@@ -1,9 +1,10 @@
 //! Names in order, which are found by a map.
 
-ghost use Rattle.std.specs.Prelude.{◌≡◌, ◌++◌, ◌∷◌, [], OnOk, map};
+ghost use Rattle.std.specs.Prelude.{◌≡◌, ◌++◌, ◌∷◌, [], OnOk, OnErr, IfOk, MatchBool, true, false, is_some, unwrap_or, map};
+ghost use Rattle.std.specs.BTreeMap.{IsUnchanged};
 ghost use Rattle.std.specs.List.{list_any};
 ghost use Rattle.std.specs.Str.{bytes_eq};
-ghost use Rattle.gql_scope.specs.Places.{first_at, ArePlaces};
+ghost use Rattle.gql_scope.specs.Places.{first_at, place_in, ArePlaces, Learns};
 
 use scalar_val::{NoMemory, Str};
 use std::alloc::Global;
@@ -29,6 +30,22 @@ impl<'a> Model for Names<'a> {
     ghost invariant = { λ n. ArePlaces (map (λ t. t.now) n.names.items) n.places };
 }
 
+/// The place of a name, which is noted where the name is new.
+fn place_or<'a>(
+    places: &mut BTreeMap<&'a str, usize>,
+    name: &'a str,
+    place: usize,
+) -> Result<usize, NoMemory>
+    ensures err { OnErr result (IsUnchanged places.old places.new) }
+    ensures found { IfOk result (λ found. found ≡ unwrap_or (place_in places.old name.now) place) }
+    ensures learns { IfOk result (λ found. Learns places.old places.new name.now found) }
+{
+    match places.entry(name) {
+        Ok(entry) => Ok(*entry.or_insert(place)),
+        Err(_) => Err(NoMemory),
+    }
+}
+
 /// Adds a name at the end, and its place where it is new.
 fn put<'a>(
     names: &mut Vec<&'a Str>,
@@ -40,18 +57,39 @@ fn put<'a>(
     ensures added { OnOk result (map (λ t. t.now) names.new.items ≡ map (λ t. t.now) names.old.items ++ name.now ∷ []) }
 {
     let place = names.len();
-    let known = places.contains_key(name.as_str());
     names.push(name)?;
-    if known {
-        return Ok(());
-    }
-    match places.insert(name.as_str(), place) {
+    match place_or(places, name.as_str(), place) {
         Ok(_) => Ok(()),
         Err(_) => {
             names.pop();
             Err(NoMemory)
         }
     }
+}
+
+/// Adds a name at the end, and its place, where it is new.
+fn put_new<'a>(
+    names: &mut Vec<&'a Str>,
+    places: &mut BTreeMap<&'a str, usize>,
+    name: &'a Str,
+) -> Result<bool, NoMemory>
+    requires { ArePlaces (map (λ t. t.now) names.old.items) places.old }
+    ensures places { ArePlaces (map (λ t. t.now) names.new.items) places.new }
+    ensures added { IfOk result (λ first. MatchBool first
+        ((is_some (first_at (map (λ t. t.now) names.old.items) name.now) ≡ false) × (map (λ t. t.now) names.new.items ≡ map (λ t. t.now) names.old.items ++ name.now ∷ []))
+        ((is_some (first_at (map (λ t. t.now) names.old.items) name.now) ≡ true) × (map (λ t. t.now) names.new.items ≡ map (λ t. t.now) names.old.items))) }
+{
+    let place = names.len();
+    names.push(name)?;
+    let Ok(found) = place_or(places, name.as_str(), place) else {
+        names.pop();
+        return Err(NoMemory);
+    };
+    if found == place {
+        return Ok(true);
+    }
+    names.pop();
+    Ok(false)
 }
 
 impl<'a> Names<'a> {
@@ -84,5 +122,15 @@ impl<'a> Names<'a> {
         ensures { OnOk result (self.new ≡ self.old ++ name.now ∷ []) }
     {
         put(&mut self.names, &mut self.places, name)
+    }
+
+    /// Adds a name at the end where it isn't there, and says whether it was new.
+    #[tactic(auto, using(crate::proofs::PlaceRules::among))]
+    pub fn push_new(&mut self, name: &'a Str) -> Result<bool, NoMemory>
+        ensures { IfOk result (λ first. MatchBool first
+            ((list_any (bytes_eq name.now) self.old ≡ false) × (self.new ≡ self.old ++ name.now ∷ []))
+            ((list_any (bytes_eq name.now) self.old ≡ true) × (self.new ≡ self.old))) }
+    {
+        put_new(&mut self.names, &mut self.places, name)
     }
 }
