@@ -1,15 +1,16 @@
 -- How an object is collected.
-use Rattle.std.proofs.Common.{◌≡◌, ◌∙◌, ◌<◌, ◌≤◌, ◌+◌, sym, ap, refl, arith, ℕ, suc, Bool, true, false, not, if◌then◌else◌, List, [], ◌∷◌, ◌++◌, length, map, drop, get_or, set, Option, Some}
-use Rattle.std.specs.List.{list_any, flat_map, position_or_len}
+use Rattle.std.proofs.Common.{◌≡◌, ◌∙◌, ◌<◌, ◌≤◌, ◌+◌, sym, ap, refl, arith, ℕ, suc, Bool, true, false, not, if◌then◌else◌, List, [], ◌∷◌, ◌++◌, length, map, drop, take, get_or, ◌-◌, Option, Some}
+use Rattle.std.specs.List.{list_any, flat_map}
 use Rattle.std.specs.Str.{bytes_eq}
-use Rattle.std.proofs.lemmas.List.{map-append}
+use Rattle.std.proofs.lemmas.List.{map-append, take_all}
 use Rattle.gql_canon.proofs.OrderRules.{from_place}
 use Rattle.request_model.specs.declared.document.Directive.{Directive}
 use Rattle.request_model.specs.declared.document.GPair.{GPair}
 use Rattle.request_model.specs.declared.document.Selection.{Selection}
 use Rattle.request_model.specs.declared.document.Selection.TheVariants as s
 use Rattle.request_model.specs.Strings.{Text}
-use Rattle.request_model.specs.Selection.{Scope, Fragment, fragment_named, Selected, Group, grouped, Collected, Collecting, in_order, noted, noted_if, with_visited, with_field, response_key, unless_dropped, is_dropped, collect_one, collecting, visiting, spreading}
+use Rattle.request_model.specs.Selection.{Scope, Fragment, fragment_named, Selected, Collected, Collecting, in_order, noted, noted_if, with_visited, with_field, response_key, unless_dropped, is_dropped, collect_one, collecting, visiting, spreading}
+use Rattle.gql_flat.specs.Collecting.{Frame, frames_of, of_frame, of_stack}
 use Rattle.request_model.proofs.SelectionRules.{collect-Field, collect-Spread, collect-Inline}
 
 pub of_field : (scope : Scope) (spread : Text → Collecting) (alias : Option Text) (name : Text) (args : List GPair) (ds : List Directive) (set : List Selection) (c : Collected) →
@@ -23,44 +24,16 @@ pub of_inline : (scope : Scope) (spread : Text → Collecting) (on : Option Text
     collect_one scope spread (s.Inline on ds set) c ≡ unless_dropped (is_dropped scope ds) (λ b. collecting scope spread set (noted_if on b)) c
 of_inline scope spread on ds set c = collect-Inline scope spread on ds set c
 
--- ---- groups
+-- ---- what waits
 
-abbrev place_in : Selected → List Group → ℕ
-place_in f gs = position_or_len (λ (g : Group). bytes_eq f.key g.first.key) gs
+pub put_adds : (scope : Scope) (stack : List Frame) (depth : ℕ) (set : List Selection) (c : Collected) → of_stack scope (stack ++ frames_of depth set) c ≡ of_stack scope stack (collecting scope (spreading scope depth) set c)
+put_adds scope [] depth [] c = refl
+put_adds scope [] depth (x ∷ xs) c = refl
+put_adds scope (f ∷ stack) depth set c = ap (of_frame scope f) (put_adds scope stack depth set c)
 
-abbrev pub joined : Group → Selected → Group
-joined g f = record { first = g.first; others = g.others ++ f ∷ [] }
-
-join_or : (f : Selected) (h g : Group) (gs : List Group) (b : Bool) → (place_in f gs < length gs → g ≡ get_or gs (place_in f gs) g → grouped f gs ≡ set gs (place_in f gs) (joined g f)) →
-    (if not b then 1 + place_in f gs else 0) < length (h ∷ gs) → g ≡ get_or (h ∷ gs) (if not b then 1 + place_in f gs else 0) g →
-    (if b then joined h f ∷ gs else h ∷ grouped f gs) ≡ set (h ∷ gs) (if not b then 1 + place_in f gs else 0) (joined g f)
-join_or f h g gs true later lt e = ap (λ x. joined x f ∷ gs) (sym e)
-join_or f h g gs false later lt e =
-    let s : 1 + place_in f gs ≡ suc (place_in f gs) = omega arith in
-    ap (λ xs. h ∷ xs) (later (omega (arith, lt)) (e ∙ ap (λ i. get_or (h ∷ gs) i g) s)) ∙ ap (λ i. set (h ∷ gs) i (joined g f)) (sym s)
-
-joins_at : (f : Selected) (g : Group) (gs : List Group) → place_in f gs < length gs → g ≡ get_or gs (place_in f gs) g → grouped f gs ≡ set gs (place_in f gs) (joined g f)
-joins_at f g [] lt e = absurd (omega (arith, lt))
-joins_at f g (h ∷ gs) lt e = join_or f h g gs (bytes_eq f.key h.first.key) (joins_at f g gs) lt e
-
-pub joins : (f : Selected) (g : Group) (gs read : List Group) (at : ℕ) → read ≡ gs → at ≡ place_in f read → at < length gs → g ≡ get_or gs at g → set gs at (joined g f) ≡ grouped f gs
-joins f g gs read at er ea lt eg =
-    let here : at ≡ place_in f gs = ea ∙ ap (place_in f) er in
-    ap (λ i. set gs i (joined g f)) here ∙ sym (joins_at f g gs (omega (arith, lt, here)) (eg ∙ ap (λ i. get_or gs i g) here))
-
-new_or : (f : Selected) (h : Group) (gs : List Group) (b : Bool) → (length gs ≤ place_in f gs → grouped f gs ≡ gs ++ record { first = f; others = [] } ∷ []) →
-    length (h ∷ gs) ≤ (if not b then 1 + place_in f gs else 0) → (if b then joined h f ∷ gs else h ∷ grouped f gs) ≡ h ∷ gs ++ record { first = f; others = [] } ∷ []
-new_or f h gs true later le = absurd (omega (arith, le))
-new_or f h gs false later le = ap (λ xs. h ∷ xs) (later (omega (arith, le)))
-
-new_at : (f : Selected) (gs : List Group) → length gs ≤ place_in f gs → grouped f gs ≡ gs ++ record { first = f; others = [] } ∷ []
-new_at f [] le = refl
-new_at f (h ∷ gs) le = new_or f h gs (bytes_eq f.key h.first.key) (new_at f gs) le
-
-pub begins : (f : Selected) (gs read : List Group) (at : ℕ) (others : List Selected) → read ≡ gs → at ≡ place_in f read → length gs ≤ at → others ≡ [] → gs ++ record { first = f; others = others } ∷ [] ≡ grouped f gs
-begins f gs read at others er ea le none =
-    let here : at ≡ place_in f gs = ea ∙ ap (place_in f) er in
-    ap (λ os. gs ++ record { first = f; others = os } ∷ []) none ∙ sym (new_at f gs (omega (arith, le, here)))
+pub top_adds : (scope : Scope) (stack : List Frame) (f : Frame) (c : Collected) → of_stack scope (stack ++ f ∷ []) c ≡ of_stack scope stack (of_frame scope f c)
+top_adds scope [] f c = refl
+top_adds scope (g ∷ stack) f c = ap (of_frame scope g) (top_adds scope stack f c)
 
 -- ---- spreads
 
@@ -72,6 +45,40 @@ enters scope depth less name f c mid after ed ef ev em ea =
     ∙ sym (ap (λ (b : Bool). if b then c else collecting scope (spreading scope less) f.select (noted f.on (with_visited f.name c))) ev)
     ∙ sym (ap (λ o. visiting scope (collecting scope (spreading scope less)) o c) ef)
     ∙ ap (λ n. spreading scope n name c) (sym next)
+
+pub spread_adds : (scope : Scope) (stack after : List Frame) (depth less : ℕ) (name : Text) (f : Fragment) (set : List Selection) (c mid : Collected) → depth ≡ less + 1 → fragment_named scope.fragments name ≡ Some f →
+    list_any (bytes_eq f.name) c.visited ≡ false → mid ≡ noted f.on (with_visited f.name c) → set ≡ f.select → after ≡ stack ++ frames_of less set → of_stack scope after mid ≡ of_stack scope stack (spreading scope depth name c)
+spread_adds scope stack after depth less name f set c mid ed ef ev em es ea =
+    ap (λ fs. of_stack scope fs mid) ea ∙ put_adds scope stack less set mid
+    ∙ ap (of_stack scope stack) (ap (λ xs. collecting scope (spreading scope less) xs mid) es ∙ enters scope depth less name f c mid (collecting scope (spreading scope less) f.select mid) ed ef ev em refl)
+
+-- ---- inline fragments
+
+pub inline_adds : (scope : Scope) (stack after : List Frame) (depth : ℕ) (dropped : Bool) (on : Option Text) (set : List Selection) (c mid : Collected) → dropped ≡ false → mid ≡ noted_if on c → after ≡ stack ++ frames_of depth set →
+    of_stack scope after mid ≡ of_stack scope stack (unless_dropped dropped (λ b. collecting scope (spreading scope depth) set (noted_if on b)) c)
+inline_adds scope stack after depth dropped on set c mid ed em ea =
+    ap (λ fs. of_stack scope fs mid) ea ∙ put_adds scope stack depth set mid ∙ ap (λ m. of_stack scope stack (collecting scope (spreading scope depth) set m)) em
+    ∙ sym (ap (λ b. of_stack scope stack (unless_dropped b (λ m. collecting scope (spreading scope depth) set (noted_if on m)) c)) ed)
+
+-- ---- turns
+
+pub parts : (xs : List Selection) (x : Selection) → 1 ≤ length xs → x ≡ get_or xs 0 x → xs ≡ x ∷ take (length xs - 1) (drop 1 xs)
+parts [] x le e = absurd (omega (arith, le))
+parts (y ∷ ys) x le e = ap (λ z. z ∷ ys) (sym e) ∙ ap (λ zs. x ∷ zs) (sym (take_all (length (y ∷ ys) - 1) ys (omega arith)))
+
+pub turn_adds : (scope : Scope) (stack put after : List Frame) (frame : Frame) (depth : ℕ) (set rest : List Selection) (x : Selection) (c found : Collected) → record { rest = set; depth = depth } ≡ frame → set ≡ x ∷ rest →
+    put ≡ stack ++ frames_of depth rest → of_stack scope after found ≡ of_stack scope put (collect_one scope (spreading scope depth) x c) → of_stack scope after found ≡ of_stack scope stack (of_frame scope frame c)
+turn_adds scope stack put after frame depth set rest x c found ev es ep h =
+    h ∙ ap (λ fs. of_stack scope fs (collect_one scope (spreading scope depth) x c)) ep ∙ put_adds scope stack depth rest (collect_one scope (spreading scope depth) x c)
+    ∙ ap (λ xs. of_stack scope stack (collecting scope (spreading scope depth) xs c)) (sym es) ∙ ap (λ f. of_stack scope stack (of_frame scope f c)) ev
+
+pub pop_adds : (scope : Scope) (stack rest after : List Frame) (frame : Frame) (c found whole : Collected) → stack ≡ rest ++ frame ∷ [] → of_stack scope after found ≡ of_stack scope rest (of_frame scope frame c) →
+    of_stack scope stack c ≡ whole → of_stack scope after found ≡ whole
+pop_adds scope stack rest after frame c found whole es h before = h ∙ sym (top_adds scope rest frame c) ∙ sym (ap (λ fs. of_stack scope fs c) es) ∙ before
+
+pub nothing_waits : (scope : Scope) (stack : List Frame) (c whole : Collected) → length stack ≡ 0 → of_stack scope stack c ≡ whole → c ≡ whole
+nothing_waits scope [] c whole none h = h
+nothing_waits scope (f ∷ stack) c whole none h = absurd (omega (arith, none))
 
 -- ---- sets side by side
 

@@ -1,4 +1,5 @@
 pub mod CollectRules
 pub mod FieldRules
-pub mod HeightRules
+pub mod GroupRules
+pub mod WeightRules
 pub mod WholeRules

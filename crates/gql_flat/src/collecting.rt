@@ -1,68 +1,27 @@
 //! The fields of one object (GraphQL October 2021, section 6.3.2, "Field Collection").
 
-ghost use Rattle.std.specs.Prelude.{◌≡◌, ◌++◌, ◌∷◌, [], OnOk, IfOk, MatchBool, map, true, false};
-ghost use Rattle.std.specs.List.{list_any, position_or_len, flat_map};
-ghost use Rattle.std.specs.Option.{option_copied};
+ghost use Rattle.std.specs.Prelude.{◌≡◌, ◌<◌, ◌+◌, ◌++◌, OnOk, IfOk, MatchBool, map, true, false};
+ghost use Rattle.std.specs.List.{list_any, flat_map};
 ghost use Rattle.std.specs.Str.{bytes_eq};
 ghost use Rattle.request_model.specs.Selection as spec;
 ghost use Rattle.gql_scope.specs.Scopes.{scope_of};
+ghost use Rattle.gql_flat.specs.Collecting.{frames_of, of_frame, of_stack, weight_one, weight_all, spread_weight, frame_weight, stack_weight};
 
-use gql_scope::{Fragment, Names, Scope, same};
+pub use crate::groups::{Group, Selected};
+
+use crate::groups::Groups;
+use gql_scope::{Fragment, Names, Scope};
 use request_model::{Directive, GPair, Selection};
 use scalar_val::{NoMemory, Str};
 use std::alloc::Global;
 use std::marker::Model;
-
-/// A field as it is selected, under its response key.
-#[derive(Drop)]
-pub struct Selected<'a> {
-    pub key: &'a Str,
-    pub name: &'a Str,
-    pub args: &'a [GPair],
-    pub select: &'a [Selection],
-}
-
-impl<'a> Model for Selected<'a> {
-    ghost use Rattle.request_model.specs.Selection as spec;
-    ghost use Rattle.std.specs.Coded.{codes};
-    ghost use Rattle.request_model.specs.contracts.document.GValue as gvalue;
-    ghost use Rattle.request_model.specs.contracts.document.GPair as gpair;
-    ghost use Rattle.request_model.specs.contracts.document.Selection as selection;
-
-    ghost Value = { spec.Selected };
-
-    ghost coded = { Prim.hlevel (codes, gvalue.the_row.coded, gpair.the_row.coded, selection.the_row.coded) };
-
-    ghost view = { λ f. record { key = f.key.now; name = f.name.now; args = f.args.now; select = f.select.now } };
-}
-
-/// The fields of one response key, in the order in which they are met.
-#[derive(Drop)]
-pub struct Group<'a> {
-    pub first: Selected<'a>,
-    pub others: Vec<Selected<'a>>,
-}
-
-impl<'a> Model for Group<'a> {
-    ghost use Rattle.request_model.specs.Selection as spec;
-    ghost use Rattle.std.specs.Coded.{codes};
-    ghost use Rattle.request_model.specs.contracts.document.GValue as gvalue;
-    ghost use Rattle.request_model.specs.contracts.document.GPair as gpair;
-    ghost use Rattle.request_model.specs.contracts.document.Selection as selection;
-
-    ghost Value = { spec.Group };
-
-    ghost coded = { Prim.hlevel (codes, gvalue.the_row.coded, gpair.the_row.coded, selection.the_row.coded) };
-
-    ghost view = { λ g. record { first = g.first; others = g.others.items } };
-}
 
 /// What is collected of one object: the fragments that were spread, the type conditions that were met, and the fields.
 #[derive(Drop)]
 pub struct Object<'a> {
     pub visited: Names<'a>,
     pub conditions: Vec<&'a Str>,
-    pub groups: Vec<Group<'a>>,
+    pub groups: Groups<'a>,
 }
 
 impl<'a> Model for Object<'a> {
@@ -77,52 +36,7 @@ impl<'a> Model for Object<'a> {
 
     ghost coded = { Prim.hlevel (codes, gvalue.the_row.coded, gpair.the_row.coded, selection.the_row.coded) };
 
-    ghost view = { λ c. record { visited = c.visited; conditions = map (λ t. t.now) c.conditions.items; groups = c.groups.items } };
-}
-
-/// The place of the group of a key, or the number of groups.
-fn place_of(groups: &[Group<'_>], key: &str) -> usize
-    ensures { result ≡ position_or_len (λ g. bytes_eq key.now g.first.key) groups.now }
-{
-    for (index, group) in groups.iter().enumerate() {
-        if same(key, group.first.key.as_str()) {
-            return index;
-        }
-    }
-    groups.len()
-}
-
-/// The place of the group that a field joins.
-fn place_for(groups: &[Group<'_>], field: &Selected<'_>) -> usize
-    ensures { result ≡ position_or_len (λ g. bytes_eq field.now.key g.first.key) groups.now }
-{
-    place_of(groups, field.key.as_str())
-}
-
-fn join<'a>(group: &mut Group<'a>, field: Selected<'a>) -> Result<(), NoMemory>
-    ensures { OnOk result (group.new ≡ record { first = group.old.first; others = group.old.others ++ field.entry ∷ [] }) }
-{
-    group.others.push(field)?;
-    Ok(())
-}
-
-fn add_field<'a>(
-    alloc: Global,
-    groups: &mut Vec<Group<'a>>,
-    field: Selected<'a>,
-) -> Result<(), NoMemory>
-    ensures { OnOk result (groups.new.items ≡ spec.grouped field.entry groups.old.items) }
-{
-    let index = place_for(groups.as_slice(), &field);
-    if index < groups.len() {
-        return join(&mut groups[index], field);
-    }
-    let others = Vec::new(alloc);
-    groups.push(Group {
-        first: field,
-        others,
-    })?;
-    Ok(())
+    ghost view = { λ c. record { visited = c.visited; conditions = map (λ t. t.now) c.conditions.items; groups = c.groups } };
 }
 
 /// Whether the fragment is met for the first time; then it is noted with its type condition.
@@ -160,7 +74,7 @@ fn response_key<'a>(alias: &'a Option<Str>, name: &'a Str) -> &'a Str
 fn put_field<'a>(alloc: Global, field: Selected<'a>, found: &mut Object<'a>) -> Result<(), NoMemory>
     ensures { OnOk result (found.new ≡ spec.with_field field.entry found.old) }
 {
-    add_field(alloc, &mut found.groups, field)
+    found.groups.add_field(alloc, field)
 }
 
 fn field_of<'a>(
@@ -194,33 +108,112 @@ fn collect_field<'a>(
     put_field(alloc, field, found)
 }
 
-/// Collects selections in order; spreads nest at most `depth` deep.
-#[cycle(collect)]
-pub fn collect<'a>(
-    alloc: Global,
-    scope: &Scope<'a>,
+/// Selections that wait to be collected; spreads nest at most `depth` deep in them.
+#[derive(Drop)]
+pub struct Frame<'a> {
+    rest: &'a [Selection],
+    depth: usize,
+}
+
+impl<'a> Model for Frame<'a> {
+    ghost use Rattle.std.specs.Coded.{codes};
+    ghost use Rattle.gql_flat.specs.Collecting as wait;
+    ghost use Rattle.request_model.specs.contracts.document.GValue as gvalue;
+    ghost use Rattle.request_model.specs.contracts.document.GPair as gpair;
+    ghost use Rattle.request_model.specs.contracts.document.Selection as selection;
+
+    ghost Value = { wait.Frame };
+
+    ghost coded = { Prim.hlevel (codes, gvalue.the_row.coded, gpair.the_row.coded, selection.the_row.coded) };
+
+    ghost view = { λ f. record { rest = f.rest.now; depth = f.depth } };
+}
+
+/// Puts selections on top, where there are some.
+fn put<'a>(
+    stack: &mut Vec<Frame<'a>>,
     depth: usize,
     set: &'a [Selection],
-    found: &mut Object<'a>,
 ) -> Result<(), NoMemory>
-    ensures { OnOk result (found.new ≡ spec.collecting (scope_of scope.now) (spec.spreading (scope_of scope.now) depth) set.now found.old) }
+    ensures { OnOk result (stack.new.items ≡ stack.old.items ++ frames_of depth set.now) }
 {
-    for selection in set {
-        collect_one(alloc, scope, depth, selection, found)?;
+    if !set.is_empty() {
+        stack.push(Frame { rest: set, depth })?;
     }
     Ok(())
 }
 
-#[cycle(collect)]
-#[tactic(auto, using(crate::proofs::CollectRules::of_field, crate::proofs::CollectRules::of_spread, crate::proofs::CollectRules::of_inline))]
+fn collect_spread<'a>(
+    scope: &Scope<'a>,
+    depth: usize,
+    directives: &[Directive],
+    name: &str,
+    stack: &mut Vec<Frame<'a>>,
+    found: &mut Object<'a>,
+) -> Result<(), NoMemory>
+    ensures same { OnOk result (of_stack (scope_of scope.now) stack.new.items found.new ≡ of_stack (scope_of scope.now) stack.old.items (spec.unless_dropped (spec.is_dropped (scope_of scope.now) directives.now) (spec.spreading (scope_of scope.now) depth name.now) found.old)) }
+    ensures falls { OnOk result (stack_weight (scope_of scope.now).fragments stack.new.items < stack_weight (scope_of scope.now).fragments stack.old.items + spread_weight (scope_of scope.now).fragments depth name.now) }
+{
+    if scope.is_dropped(directives) {
+        return Ok(());
+    }
+    spread(scope, depth, name, stack, found)
+}
+
+fn spread<'a>(
+    scope: &Scope<'a>,
+    depth: usize,
+    name: &str,
+    stack: &mut Vec<Frame<'a>>,
+    found: &mut Object<'a>,
+) -> Result<(), NoMemory>
+    ensures same { OnOk result (of_stack (scope_of scope.now) stack.new.items found.new ≡ of_stack (scope_of scope.now) stack.old.items (spec.spreading (scope_of scope.now) depth name.now found.old)) }
+    ensures falls { OnOk result (stack_weight (scope_of scope.now).fragments stack.new.items < stack_weight (scope_of scope.now).fragments stack.old.items + spread_weight (scope_of scope.now).fragments depth name.now) }
+{
+    if depth == 0 {
+        return Ok(());
+    }
+    let Some(fragment) = scope.fragment(name) else {
+        return Ok(());
+    };
+    let first = visit(fragment, found)?;
+    if !first {
+        return Ok(());
+    }
+    put(stack, depth - 1, fragment.select)
+}
+
+fn collect_inline<'a>(
+    scope: &Scope<'a>,
+    depth: usize,
+    directives: &[Directive],
+    on: &'a Option<Str>,
+    set: &'a [Selection],
+    stack: &mut Vec<Frame<'a>>,
+    found: &mut Object<'a>,
+) -> Result<(), NoMemory>
+    ensures same { OnOk result (of_stack (scope_of scope.now) stack.new.items found.new ≡ of_stack (scope_of scope.now) stack.old.items (spec.unless_dropped (spec.is_dropped (scope_of scope.now) directives.now) (λ c. spec.collecting (scope_of scope.now) (spec.spreading (scope_of scope.now) depth) set.now (spec.noted_if on.now c)) found.old)) }
+    ensures falls { OnOk result (stack_weight (scope_of scope.now).fragments stack.new.items < stack_weight (scope_of scope.now).fragments stack.old.items + (2 + weight_all (spread_weight (scope_of scope.now).fragments depth) set.now)) }
+{
+    if scope.is_dropped(directives) {
+        return Ok(());
+    }
+    note_if(on, found)?;
+    put(stack, depth, set)
+}
+
+/// Collects a selection, and leaves what is inside it on top of the stack.
+#[tactic(auto, using(crate::proofs::CollectRules::of_field, crate::proofs::CollectRules::of_spread, crate::proofs::CollectRules::of_inline, crate::proofs::WeightRules::of_field, crate::proofs::WeightRules::of_spread, crate::proofs::WeightRules::of_inline))]
 fn collect_one<'a>(
     alloc: Global,
     scope: &Scope<'a>,
     depth: usize,
     selection: &'a Selection,
+    stack: &mut Vec<Frame<'a>>,
     found: &mut Object<'a>,
 ) -> Result<(), NoMemory>
-    ensures { OnOk result (found.new ≡ spec.collect_one (scope_of scope.now) (spec.spreading (scope_of scope.now) depth) selection.now found.old) }
+    ensures same { OnOk result (of_stack (scope_of scope.now) stack.new.items found.new ≡ of_stack (scope_of scope.now) stack.old.items (spec.collect_one (scope_of scope.now) (spec.spreading (scope_of scope.now) depth) selection.now found.old)) }
+    ensures falls { OnOk result (stack_weight (scope_of scope.now).fragments stack.new.items < stack_weight (scope_of scope.now).fragments stack.old.items + weight_one (spread_weight (scope_of scope.now).fragments depth) selection.now) }
 {
     match selection {
         Selection::Field {
@@ -235,11 +228,11 @@ fn collect_one<'a>(
         }
         Selection::Spread { name, directives } => {
             collect_spread(
-                alloc,
                 scope,
                 depth,
                 directives.as_slice(),
                 name.as_str(),
+                stack,
                 found,
             )
         }
@@ -248,74 +241,52 @@ fn collect_one<'a>(
             directives,
             select,
         } => collect_inline(
-            alloc,
             scope,
             depth,
             directives.as_slice(),
             on,
             select.as_slice(),
+            stack,
             found,
         ),
     }
 }
 
-#[cycle(collect)]
-fn collect_spread<'a>(
+/// Collects the first selection of a frame that was on top, and leaves on top what is inside it, with the rest below.
+fn turn<'a>(
     alloc: Global,
     scope: &Scope<'a>,
-    depth: usize,
-    directives: &[Directive],
-    name: &str,
+    frame: &Frame<'a>,
+    stack: &mut Vec<Frame<'a>>,
     found: &mut Object<'a>,
 ) -> Result<(), NoMemory>
-    ensures { OnOk result (found.new ≡ spec.unless_dropped (spec.is_dropped (scope_of scope.now) directives.now) (spec.spreading (scope_of scope.now) depth name.now) found.old) }
+    ensures same { OnOk result (of_stack (scope_of scope.now) stack.new.items found.new ≡ of_stack (scope_of scope.now) stack.old.items (of_frame (scope_of scope.now) frame.now found.old)) }
+    ensures falls { OnOk result (stack_weight (scope_of scope.now).fragments stack.new.items < stack_weight (scope_of scope.now).fragments stack.old.items + frame_weight (scope_of scope.now).fragments frame.now) }
 {
-    if scope.is_dropped(directives) {
+    let [first, rest @ ..] = frame.rest else {
         return Ok(());
-    }
-    spread(alloc, scope, depth, name, found)
+    };
+    put(stack, frame.depth, rest)?;
+    collect_one(alloc, scope, frame.depth, first, stack, found)
 }
 
-#[cycle(collect)]
-fn collect_inline<'a>(
+/// Collects selections in order; spreads nest at most `depth` deep. What waits stands on the heap, since inline fragments
+/// and spreads may nest as deep as a document is long.
+pub fn collect<'a>(
     alloc: Global,
     scope: &Scope<'a>,
     depth: usize,
-    directives: &[Directive],
-    on: &'a Option<Str>,
     set: &'a [Selection],
     found: &mut Object<'a>,
 ) -> Result<(), NoMemory>
-    ensures { OnOk result (found.new ≡ spec.unless_dropped (spec.is_dropped (scope_of scope.now) directives.now) (λ c. spec.collecting (scope_of scope.now) (spec.spreading (scope_of scope.now) depth) set.now (spec.noted_if on.now c)) found.old) }
+    ensures { OnOk result (found.new ≡ spec.collecting (scope_of scope.now) (spec.spreading (scope_of scope.now) depth) set.now found.old) }
 {
-    if scope.is_dropped(directives) {
-        return Ok(());
+    let mut stack = Vec::new(alloc);
+    put(&mut stack, depth, set)?;
+    while let Some(frame) = stack.pop() {
+        turn(alloc, scope, &frame, &mut stack, found)?;
     }
-    note_if(on, found)?;
-    collect(alloc, scope, depth, set, found)
-}
-
-#[cycle(collect)]
-fn spread<'a>(
-    alloc: Global,
-    scope: &Scope<'a>,
-    depth: usize,
-    name: &str,
-    found: &mut Object<'a>,
-) -> Result<(), NoMemory>
-    ensures { OnOk result (found.new ≡ spec.spreading (scope_of scope.now) depth name.now found.old) }
-{
-    if depth == 0 {
-        return Ok(());
-    }
-    let Some(fragment) = scope.fragment(name) else {
-        return Ok(());
-    };
-    let first = visit(fragment, found)?;
-    if !first {
-        return Ok(());
-    }
-    collect(alloc, scope, depth - 1, fragment.select, found)
+    Ok(())
 }
 
 fn nothing<'a>(alloc: Global) -> Object<'a>
@@ -324,7 +295,7 @@ fn nothing<'a>(alloc: Global) -> Object<'a>
     Object {
         visited: Names::new(alloc),
         conditions: Vec::new(alloc),
-        groups: Vec::new(alloc),
+        groups: Groups::new(alloc),
     }
 }
 

@@ -5,6 +5,7 @@ mod collecting;
 mod copies;
 mod fields;
 mod flattening;
+mod groups;
 #[cfg(test)]
 mod tests;
 

@@ -203,6 +203,72 @@ fn twelve_levels_and_4096_fields(rt: HostRuntime) -> Result<(), Fail> {
     Ok(())
 }
 
+/// Puts a fragment's name.
+fn put_name(alloc: Global, number: u32, text: &mut String) -> Result<(), Fail> {
+    text.push_str("F")?;
+    text.push_str(number.to_string(alloc)?.as_str())?;
+    Ok(())
+}
+
+/// Puts a fragment that spreads the next of so many within so many inline fragments, or at last a field.
+fn put_fragment(
+    alloc: Global,
+    number: u32,
+    fragments: u32,
+    inlines: u32,
+    text: &mut String,
+) -> Result<(), Fail> {
+    text.push_str("fragment ")?;
+    put_name(alloc, number, text)?;
+    text.push_str(" on B{")?;
+    for _ in 0..inlines {
+        text.push_str("...{")?;
+    }
+    if number + 1 < fragments {
+        text.push_str("...")?;
+        put_name(alloc, number + 1, text)?;
+    } else {
+        text.push_str("a")?;
+    }
+    for _ in 0..inlines {
+        text.push_str("}")?;
+    }
+    text.push_str("}")?;
+    Ok(())
+}
+
+/// A query, and a chain of so many fragments, each of which spreads the next within so many inline fragments.
+fn with_chain(alloc: Global, query: &str, fragments: u32, inlines: u32) -> Result<String, Fail> {
+    let mut text = String::from_str(alloc, query)?;
+    for number in 0..fragments {
+        put_fragment(alloc, number, fragments, inlines, &mut text)?;
+    }
+    Ok(text)
+}
+
+#[test]
+fn a_chain_of_fragments_of_any_depth_is_collected(rt: HostRuntime) -> Result<(), Fail> {
+    for (fragments, inlines) in [(2000, 0), (190, 62)] {
+        let text = with_chain(rt.alloc(), "{...F0}", fragments, inlines)?;
+        let found = answer(rt.alloc(), text.as_str(), "", "null")?;
+        assert!(rt; text.len() < 65536);
+        assert_eq!(rt; found.as_str(), "query a:a");
+    }
+    Ok(())
+}
+
+#[test]
+fn three_thousand_keys_that_are_met_twice(rt: HostRuntime) -> Result<(), Fail> {
+    let fields = row(rt.alloc(), 3000)?;
+    let mut text = String::from_str(rt.alloc(), "{u")?;
+    text.push_str(fields.as_str())?;
+    text.push_str(" u")?;
+    text.push_str(fields.as_str())?;
+    text.push_str("}")?;
+    assert!(rt; !is_too_large(rt.alloc(), text.as_str())?);
+    Ok(())
+}
+
 #[test]
 fn fragments_that_fan_out(rt: HostRuntime) -> Result<(), Fail> {
     let text =
