@@ -61,6 +61,7 @@ fn add<'a>(own: &mut HeldList<'a>, held: Held<'a>) -> Result<(), NoMemory>
     }
 }
 
+/// Takes what a role has out of the map.
 fn take_own<'a>(alloc: Global, kept: &mut HeldMap<'a>, role: &str) -> HeldList<'a>
     ensures own { result ≡ kept_by kept.old role.now }
     ensures updates { UpdatesBy (λ x y. slice_cmp nat_cmp x.now y.now) (λ k. slice_cmp nat_cmp role.now k.now) kept.old kept.new None }
@@ -71,6 +72,7 @@ fn take_own<'a>(alloc: Global, kept: &mut HeldMap<'a>, role: &str) -> HeldList<'
     }
 }
 
+/// Gives a permission to its role.
 fn keep<'a>(alloc: Global, kept: &mut HeldMap<'a>, held: Held<'a>) -> Result<(), NoMemory>
     ensures { OnOk result ((q : Text) → kept_by kept.new q ≡ with_one q (kept_by kept.old q) held.entry) }
 {
@@ -83,6 +85,7 @@ fn keep<'a>(alloc: Global, kept: &mut HeldMap<'a>, held: Held<'a>) -> Result<(),
     }
 }
 
+/// Gives the permissions of a table to their roles.
 fn keep_of_table<'a>(
     alloc: Global,
     kept: &mut HeldMap<'a>,
