@@ -18,6 +18,7 @@ use std::marker::Model;
 pub struct RoleView<'a> {
     meta: &'a Meta,
     role: &'a str,
+    def: Option<&'a RoleDef>,
 }
 
 impl<'a> Model for RoleView<'a> {
@@ -31,14 +32,25 @@ impl<'a> Model for RoleView<'a> {
     ghost coded = { Prim.hlevel (codes, row_of.the_row.coded) };
 
     ghost view = { λ v. record { metadata = v.meta.now; role = v.role.now } };
+
+    ghost use Rattle.std.specs.Prelude.{◌≡◌};
+    ghost use Rattle.std.specs.Option.{option_copied};
+    ghost use Rattle.role_model.specs.Roles.{role_of};
+
+    ghost invariant = { λ v. option_copied v.def ≡ role_of (record { metadata = v.meta.now; role = v.role.now }) };
 }
 
 impl Meta {
-    /// The metadata as a role sees it.
+    /// The metadata as a role sees it. The role is looked up once.
     pub fn view<'a>(&'a self, role: &'a str) -> RoleView<'a>
         ensures { result ≡ record { metadata = self.now; role = role.now } }
     {
-        RoleView { meta: self, role }
+        let def = role_by(self.said().roles.as_slice(), role);
+        RoleView {
+            meta: self,
+            role,
+            def,
+        }
     }
 }
 
@@ -119,7 +131,7 @@ impl<'a> RoleView<'a> {
     fn role(&self) -> Option<&'a RoleDef>
         ensures { option_copied result ≡ role_of self.now }
     {
-        role_by(self.meta.said().roles.as_slice(), self.role)
+        self.def
     }
 
     fn grant(&self, table: u32) -> Option<&'a Grant>
