@@ -189,8 +189,8 @@ fn stay_the_same(alloc: Global, count: usize, times: u32) -> Result<bool, Fail>
 /// An order whose time grows with the square of the count would take minutes.
 #[test]
 fn many_descending_arguments(rt: HostRuntime) -> Result<(), Fail> {
-    assert!(rt; stay_the_same(rt.alloc(), 2000, 100)?);
-    assert!(rt; stay_the_same(rt.alloc(), 10000, 200)?);
+    assert!(rt; stay_the_same(rt.alloc(), 2000, 400)?);
+    assert!(rt; stay_the_same(rt.alloc(), 10000, 400)?);
     Ok(())
 }
 
