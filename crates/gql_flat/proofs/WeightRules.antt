@@ -64,7 +64,7 @@ module _ (fs : List Fragment) where
       stack_weight fs after < stack_weight fs put + weight_one (spread_weight fs depth) x → stack_weight fs after < stack_weight fs stack + frame_weight fs frame
   turn_falls stack put after frame depth set rest x ev es ep h =
       let whole : frame_weight fs frame ≡ 1 + (weight_one (spread_weight fs depth) x + weight_all (spread_weight fs depth) rest) =
-          ap (frame_weight fs) (sym ev) ∙ ap (λ xs. 1 + weight_all (spread_weight fs depth) xs) es in
+      ap (frame_weight fs) (sym ev) ∙ ap (λ xs. 1 + weight_all (spread_weight fs depth) xs) es in
       omega (arith, h, put_below stack put depth rest ep, whole)
 
   pub pop_falls : (stack rest after : List Frame) (frame : Frame) → stack ≡ rest ++ frame ∷ [] → stack_weight fs after < stack_weight fs rest + frame_weight fs frame → stack_weight fs after < stack_weight fs stack

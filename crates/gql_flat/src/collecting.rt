@@ -7,9 +7,8 @@ ghost use Rattle.request_model.specs.Selection as spec;
 ghost use Rattle.gql_scope.specs.Scopes.{scope_of};
 ghost use Rattle.gql_flat.specs.Collecting.{frames_of, of_frame, of_stack, weight_one, weight_all, spread_weight, frame_weight, stack_weight};
 
-pub use crate::groups::{Group, Selected};
-
 use crate::groups::Groups;
+pub use crate::groups::{Group, Selected};
 use gql_scope::{Fragment, Names, Scope};
 use request_model::{Directive, GPair, Selection};
 use scalar_val::{NoMemory, Str};
@@ -45,10 +44,9 @@ fn visit<'a>(fragment: &Fragment<'a>, found: &mut Object<'a>) -> Result<bool, No
         ((list_any (bytes_eq fragment.now.name) found.old.visited ≡ false) × (found.new ≡ spec.noted fragment.now.on (spec.with_visited fragment.now.name found.old)))
         ((list_any (bytes_eq fragment.now.name) found.old.visited ≡ true) × (found.new ≡ found.old))) }
 {
-    if found.visited.contains(fragment.name.as_str()) {
+    if !found.visited.push_new(fragment.name)? {
         return Ok(false);
     }
-    found.visited.push(fragment.name)?;
     found.conditions.push(fragment.on)?;
     Ok(true)
 }
@@ -130,11 +128,7 @@ impl<'a> Model for Frame<'a> {
 }
 
 /// Puts selections on top, where there are some.
-fn put<'a>(
-    stack: &mut Vec<Frame<'a>>,
-    depth: usize,
-    set: &'a [Selection],
-) -> Result<(), NoMemory>
+fn put<'a>(stack: &mut Vec<Frame<'a>>, depth: usize, set: &'a [Selection]) -> Result<(), NoMemory>
     ensures { OnOk result (stack.new.items ≡ stack.old.items ++ frames_of depth set.now) }
 {
     if !set.is_empty() {

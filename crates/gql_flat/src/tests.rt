@@ -203,53 +203,53 @@ fn twelve_levels_and_4096_fields(rt: HostRuntime) -> Result<(), Fail> {
     Ok(())
 }
 
-/// Puts a fragment's name.
-fn put_name(alloc: Global, number: u32, text: &mut String) -> Result<(), Fail> {
-    text.push_str("F")?;
+fn put_number(alloc: Global, number: u32, text: &mut String) -> Result<(), Fail> {
     text.push_str(number.to_string(alloc)?.as_str())?;
     Ok(())
 }
 
-/// Puts a fragment that spreads the next of so many within so many inline fragments, or at last a field.
-fn put_fragment(
-    alloc: Global,
-    number: u32,
-    fragments: u32,
-    inlines: u32,
-    text: &mut String,
-) -> Result<(), Fail> {
-    text.push_str("fragment ")?;
-    put_name(alloc, number, text)?;
-    text.push_str(" on B{")?;
-    for _ in 0..inlines {
-        text.push_str("...{")?;
+fn put_times(piece: &str, times: u32, text: &mut String) -> Result<(), Fail> {
+    for _ in 0..times {
+        text.push_str(piece)?;
     }
-    if number + 1 < fragments {
-        text.push_str("...")?;
-        put_name(alloc, number + 1, text)?;
-    } else {
+    Ok(())
+}
+
+/// Puts the spread of the fragment before this one, or a field where it is the first.
+fn put_spread(alloc: Global, number: u32, text: &mut String) -> Result<(), Fail> {
+    if number == 0 {
         text.push_str("a")?;
+        return Ok(());
     }
-    for _ in 0..inlines {
-        text.push_str("}")?;
-    }
+    text.push_str("...F")?;
+    put_number(alloc, number - 1, text)
+}
+
+/// Puts a fragment that spreads the one before it within so many inline fragments.
+fn put_fragment(alloc: Global, number: u32, inlines: u32, text: &mut String) -> Result<(), Fail> {
+    text.push_str("fragment F")?;
+    put_number(alloc, number, text)?;
+    text.push_str(" on B{")?;
+    put_times("...{", inlines, text)?;
+    put_spread(alloc, number, text)?;
+    put_times("}", inlines, text)?;
     text.push_str("}")?;
     Ok(())
 }
 
-/// A query, and a chain of so many fragments, each of which spreads the next within so many inline fragments.
+/// A query, and a chain of so many fragments, each of which spreads the one before it within so many inline fragments.
 fn with_chain(alloc: Global, query: &str, fragments: u32, inlines: u32) -> Result<String, Fail> {
     let mut text = String::from_str(alloc, query)?;
     for number in 0..fragments {
-        put_fragment(alloc, number, fragments, inlines, &mut text)?;
+        put_fragment(alloc, number, inlines, &mut text)?;
     }
     Ok(text)
 }
 
 #[test]
 fn a_chain_of_fragments_of_any_depth_is_collected(rt: HostRuntime) -> Result<(), Fail> {
-    for (fragments, inlines) in [(2000, 0), (190, 62)] {
-        let text = with_chain(rt.alloc(), "{...F0}", fragments, inlines)?;
+    for (query, fragments, inlines) in [("{...F1999}", 2000, 0), ("{...F189}", 190, 62)] {
+        let text = with_chain(rt.alloc(), query, fragments, inlines)?;
         let found = answer(rt.alloc(), text.as_str(), "", "null")?;
         assert!(rt; text.len() < 65536);
         assert_eq!(rt; found.as_str(), "query a:a");
