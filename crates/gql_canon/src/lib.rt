@@ -10,4 +10,4 @@ mod values_text;
 
 pub use canonical::canon;
 pub use ordered::ordered_by_name;
-pub use same::{same_args, same_ordered, same_pairs};
+pub use same::{same_ordered, same_pairs};

@@ -88,14 +88,3 @@ pub fn same_ordered(alloc: Global, ordered: &[&GPair], args: &[GPair]) -> Result
     let other = ordered_by_name(alloc, args)?;
     Ok(same_refs(ordered, other.as_slice()))
 }
-
-/// Whether the arguments are the same when they are ordered by name. Those that are written alike aren't ordered.
-pub fn same_args(alloc: Global, a: &[GPair], b: &[GPair]) -> Result<bool, NoMemory>
-    ensures { IfOk result (λ found. IsTrue found ↔ (by_name a.now ≡ by_name b.now)) }
-{
-    if same_pairs(a, b) {
-        return Ok(true);
-    }
-    let ordered = ordered_by_name(alloc, a)?;
-    same_ordered(alloc, ordered.as_slice(), b)
-}

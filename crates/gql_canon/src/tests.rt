@@ -7,7 +7,7 @@ ghost use Rattle.request_model.specs.Ordered.{placed};
 ghost use Rattle.gql_canon.specs.Names.{compare_names};
 
 use crate::same::same_refs;
-use crate::{ordered_by_name, same_args, same_ordered};
+use crate::{ordered_by_name, same_ordered};
 use request_model::{GPair, GPairs, GValue};
 use scalar_val::{List, NoMemory, Str};
 use std::alloc::Global;
@@ -211,7 +211,8 @@ fn wrong_pair(
     for (index, (names, digits, others, other_digits, expected)) in cases.iter().enumerate() {
         let a = valued(alloc, names, digits)?;
         let b = valued(alloc, others, other_digits)?;
-        if same_args(alloc, a.as_slice(), b.as_slice())? != *expected {
+        let ordered = ordered_by_name(alloc, a.as_slice())?;
+        if same_ordered(alloc, ordered.as_slice(), b.as_slice())? != *expected {
             return Ok(Some(index));
         }
     }
