@@ -272,7 +272,8 @@ fn runs<L: Ledger>(alloc: Global, blank: Blank) -> Result<(Vec<u8>, Vec<u8>), No
 #[test]
 fn the_index_answers_as_the_scan_does(rt: HostRuntime) -> Result<(), Fail> {
     let (by_scan, by_index) = runs::<Brand>(rt.alloc(), Blank::new(1))?;
-    let want = b"DDNNDDDDNNDKUNNNUKDDNNDKDUNNDDKUNNDDKUNNUDKUFNDDKFFNDDDFUNDUUDUFNUDKUUNDDUFUNUDDUUNDDDDUUNDDDUUNDUDU0 null null 1 \"Al\" 3 2 null 2 ";
+    let want =
+        b"DDNNDDDDNNDKUNNNUKDDNNDKDUNNDDKUNNDDKUNNUDKUFNDDKFFNDDDFUNDUUDUFNUDKUUNDDUFUNUDDUUNDDDDUUNDDDUUNDUDU0 null null 1 \"Al\" 3 2 null 2 ";
     assert_eq!(rt; by_scan.as_slice(), want.as_slice());
     assert_eq!(rt; by_index.as_slice(), want.as_slice());
     Ok(())
