@@ -6,12 +6,12 @@ ghost use Rattle.std.specs.Prelude.{◌≡◌, ◌<◌};
 mod work;
 
 use row_store::Snapshot;
-use scalar_val::{NoMemory, Steps};
+use scalar_val::{List, NoMemory, Steps};
 use std::marker::Brand;
 use std::sync::ledger::{Blank, Ledger};
 use std::time::{Clock, Instant};
 use std::{env, io};
-use work::{Fault, commit, commits, inserts_text, updates_text, users};
+use work::{Fault, commit, commits, inserts_text, name_column, renames_text, updates_text, users};
 
 /// How many rows the first transaction inserts, and how many transactions of one insert there are.
 #[derive(Clone, Copy)]
@@ -77,7 +77,7 @@ fn run<R: Print + Clock + Alloc<A = std::alloc::Global>, L: Ledger>(
     steps: &mut Steps<L>,
 ) -> Result<(), Stop> {
     let alloc = rt.alloc();
-    let catalog = users(alloc)?;
+    let catalog = users(alloc, List::new(alloc))?;
     let empty = Snapshot::new(alloc, &catalog)?;
     let text = inserts_text(alloc, 0, sizes.rows)?;
     let start = Instant::now(rt)?;
@@ -114,6 +114,39 @@ fn run<R: Print + Clock + Alloc<A = std::alloc::Global>, L: Ledger>(
     Ok(())
 }
 
+/// So many inserts and updates in one transaction each, where names are unique.
+fn run_unique<R: Print + Clock + Alloc<A = std::alloc::Global>, L: Ledger>(
+    rt: &R,
+    rows: u32,
+    timed: bool,
+    steps: &mut Steps<L>,
+) -> Result<(), Stop> {
+    let alloc = rt.alloc();
+    let catalog = users(alloc, name_column(alloc)?)?;
+    let empty = Snapshot::new(alloc, &catalog)?;
+    let text = inserts_text(alloc, 0, rows)?;
+    let start = Instant::now(rt)?;
+    let filled = commit(alloc, &catalog, &empty, text.as_str(), steps)?;
+    report(
+        rt,
+        "inserts with unique names in one transaction",
+        rows,
+        &start,
+        timed,
+    )?;
+    let text = renames_text(alloc, rows)?;
+    let start = Instant::now(rt)?;
+    let _renamed = commit(alloc, &catalog, &filled, text.as_str(), steps)?;
+    report(
+        rt,
+        "updates of unique names in one transaction",
+        rows,
+        &start,
+        timed,
+    )?;
+    Ok(())
+}
+
 fn run_counted<R: Print + Clock + Alloc<A = std::alloc::Global>, L: Ledger>(
     rt: &R,
     sizes: Sizes,
@@ -125,7 +158,9 @@ fn run_counted<R: Print + Clock + Alloc<A = std::alloc::Global>, L: Ledger>(
     requires some { 0 < blank.parts }
 {
     let mut steps = Steps::<L>::new(blank);
-    run(rt, sizes, timed, &mut steps)
+    run(rt, sizes, timed, &mut steps)?;
+    run_unique(rt, sizes.rows, timed, &mut steps)?;
+    run_unique(rt, sizes.rows.saturating_mul(2), timed, &mut steps)
 }
 
 fn main(rt: HostRuntime) -> io::Result<()> {

@@ -1,7 +1,7 @@
 //! A table of users and transactions that fill and change it.
 ghost use Rattle.std.specs.Prelude.{◌≡◌, IfOk};
 
-use data_model::{Catalog, Column, TableDef};
+use data_model::{Catalog, Column, ColumnList, TableDef};
 use row_store::Snapshot;
 use scalar_val::{Kind, List, NoMemory, Steps, Str};
 use std::alloc::{AllocError, Global};
@@ -44,8 +44,15 @@ fn column(alloc: Global, name: &str, kind: Kind, nullable: bool) -> Result<Colum
     })
 }
 
+/// The column of the users' names.
+pub fn name_column(alloc: Global) -> Result<ColumnList, NoMemory> {
+    let mut list = List::new(alloc);
+    push(&mut list, 1)?;
+    Ok(list)
+}
+
 /// Users have an id, which is the key, and a name or none.
-pub fn users(alloc: Global) -> Result<Catalog, NoMemory> {
+pub fn users(alloc: Global, unique: ColumnList) -> Result<Catalog, NoMemory> {
     let mut columns = List::new(alloc);
     push(&mut columns, column(alloc, "id", Kind::Int, false)?)?;
     push(&mut columns, column(alloc, "name", Kind::Text, true)?)?;
@@ -55,7 +62,7 @@ pub fn users(alloc: Global) -> Result<Catalog, NoMemory> {
         name: Str::of(alloc, "user")?,
         columns,
         key,
-        unique: List::new(alloc),
+        unique,
         max_rows: 1_048_576,
     };
     let mut tables = List::new(alloc);
@@ -72,6 +79,23 @@ pub fn inserts_text(alloc: Global, from: u32, count: u32) -> Result<String, Faul
         }
         let change = format!(in alloc;
             "{{\"insert\":\"user\",\"row\":{{\"id\":{number},\"name\":\"user {number}\"}}}}"
+        )?;
+        text.push_str(change.as_str())?;
+    }
+    text.push(']')?;
+    Ok(text)
+}
+
+/// A transaction that gives each user a name that no other user has, from the last to the first.
+pub fn renames_text(alloc: Global, count: u32) -> Result<String, Fault> {
+    let mut text = String::from_str(alloc, "[")?;
+    for number in 0..count {
+        if number > 0 {
+            text.push(',')?;
+        }
+        let change = format!(in alloc;
+            "{{\"update\":\"user\",\"key\":{{\"id\":{}}},\"set\":{{\"name\":\"name {number}\"}}}}",
+            count - 1 - number
         )?;
         text.push_str(change.as_str())?;
     }

@@ -229,7 +229,7 @@ taken_out t rows at d key fits within =
     let parts : stands t.unique rows key ≡ (stands t.unique (remove rows at) key || list_any (is_key key) own) = ap (λ rows. stands t.unique rows key) whole ∙ stands_with t.unique (remove rows at) at r key in
     ap (λ b. b && not (list_any (is_key key) own)) parts
     ∙ without (stands t.unique (remove rows at) key) (list_any (is_key key) own)
-      (none_at (stands t.unique (remove rows at)) own key (standing t (remove rows at) r ∙ alone t rows at d fits within))
+    (none_at (stands t.unique (remove rows at)) own key (standing t (remove rows at) r ∙ alone t rows at d fits within))
 
 -- a row with the same keys in the place of another
 pub same_keys_stand : (columns : List ℕ) (rows : Rows) (at : ℕ) (row cells : Row) (key : UniqueKey) → at < length rows → row ≡ get_or rows at row → keys_at columns row ≡ keys_at columns cells → stands columns rows key ≡ stands columns (slice_set rows at cells) key

@@ -225,13 +225,13 @@ fn letter(stored: Stored) -> u8 {
 }
 
 /// A letter for each answer and the rows at the end. Where each table is shared before each change the answers are the
-/// scan's; else every seventh change alone finds its table shared.
+/// scan's; else every fortieth change alone finds its table shared, and the index is made between.
 fn run<L: Ledger>(alloc: Global, shared: bool, steps: &mut Steps<L>) -> Result<Vec<u8>, NoMemory> {
     let mut out = Vec::new(alloc);
     let catalog = members(alloc)?;
     let mut snapshot = Snapshot::new(alloc, &catalog)?;
     for number in 0..100u32 {
-        let share = shared || number % 7 == 6;
+        let share = shared || number % 40 == 39;
         let stored = take_turn(alloc, &mut snapshot, turn_of(number), share, steps)?;
         out.push(letter(stored))?;
     }
@@ -272,7 +272,8 @@ fn runs<L: Ledger>(alloc: Global, blank: Blank) -> Result<(Vec<u8>, Vec<u8>), No
 #[test]
 fn the_index_answers_as_the_scan_does(rt: HostRuntime) -> Result<(), Fail> {
     let (by_scan, by_index) = runs::<Brand>(rt.alloc(), Blank::new(1))?;
-    let want = b"DDNNDDDDNNDKUNNNUKDDNNDKDUNNDDKUNNDDKUNNUDKUFNDDKFFNDDDFUNDUUDUFNUDKUUNDDUFUNUDDUUNDDDDUUNDDDUUNDUDU0 null null 1 \"Al\" 3 2 null 2 ";
+    let want =
+        b"DDNNDDDDNNDKUNNNUKDDNNDKDUNNDDKUNNDDKUNNUDKUFNDDKFFNDDDFUNDUUDUFNUDKUUNDDUFUNUDDUUNDDDDUUNDDDUUNDUDU0 null null 1 \"Al\" 3 2 null 2 ";
     assert_eq!(rt; by_scan.as_slice(), want.as_slice());
     assert_eq!(rt; by_index.as_slice(), want.as_slice());
     Ok(())

@@ -31,7 +31,11 @@ fn push_key(
 }
 
 /// The keys of a row.
-pub(crate) fn keys_of(alloc: Global, columns: &[u32], cells: &[Val]) -> Result<Vec<UniqueKey>, NoMemory>
+pub(crate) fn keys_of(
+    alloc: Global,
+    columns: &[u32],
+    cells: &[Val],
+) -> Result<Vec<UniqueKey>, NoMemory>
     ensures { IfOk result (λ keys. keys.items ≡ keys_at columns.now cells.now) }
 {
     let null = Val::Null;
@@ -91,7 +95,11 @@ fn is_taken_by_another(set: &BTreeSet<UniqueKey>, key: &UniqueKey, own: &[Val]) 
 }
 
 /// Whether a key is taken by another row than the one that has the values.
-pub(crate) fn any_taken_by_another(set: &BTreeSet<UniqueKey>, keys: &[UniqueKey], own: &[Val]) -> bool
+pub(crate) fn any_taken_by_another(
+    set: &BTreeSet<UniqueKey>,
+    keys: &[UniqueKey],
+    own: &[Val],
+) -> bool
     ensures { result ≡ list_any (λ key. contains key_order set.now key && not (has_value key own.now)) keys.now }
 {
     for key in keys {

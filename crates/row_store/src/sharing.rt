@@ -10,7 +10,7 @@ use std::alloc::Global;
 use std::sync::Arc;
 use std::sync::ledger::Ledger;
 
-/// Makes the index of the unique columns where the rows aren't shared: a second change of one owner is then looked up.
+/// Makes the index of the unique columns where the rows aren't shared and one owner changes them often.
 pub(crate) fn make_index(alloc: Global, table: &TableDef, rows: &mut Arc<Table>)
     ensures { arc_value rows.new ≡ arc_value rows.old }
 {

@@ -12,12 +12,17 @@ use scalar_val::{List, NoMemory, Val};
 use std::alloc::Global;
 use std::marker::Model;
 
+/// So many changes read the rows through before the index is made, which takes as long as some dozens of scans.
+const SCANS: u32 = 16;
+
 /// Rows, and an index of their unique columns where one was made. Contracts see the rows alone. The index is a cache:
 /// it is dropped where memory is refused.
 #[derive(Drop)]
 pub(crate) struct Table {
     rows: List<Row>,
     taken: Option<Taken>,
+    /// How many changes have read the rows through in place of an index, up to the most that do.
+    scans: u32,
 }
 
 impl Model for Table {
@@ -44,7 +49,11 @@ impl Table {
     pub(crate) fn of(rows: List<Row>) -> Table
         ensures { result ≡ rows }
     {
-        Table { rows, taken: None }
+        Table {
+            rows,
+            taken: None,
+            scans: 0,
+        }
     }
 
     pub(crate) fn as_slice(&self) -> &[Row]
@@ -53,7 +62,7 @@ impl Table {
         self.rows.as_slice()
     }
 
-    /// Makes the index where the table has unique columns and it isn't there.
+    /// Makes the index where the table has unique columns, it isn't there, and changes enough were made without it.
     pub(crate) fn make_index(&mut self, alloc: Global, table: &TableDef)
         ensures { self.new ≡ self.old }
     {
@@ -61,6 +70,10 @@ impl Table {
             return;
         }
         if has_index(&self.taken, table) {
+            return;
+        }
+        if self.scans < SCANS {
+            self.scans += 1;
             return;
         }
         if let Ok(taken) = taken_in(alloc, table, self.rows.as_slice()) {

@@ -4,7 +4,9 @@ ghost use Rattle.data_model.specs.Rows.{Rows, FitsTable, clash};
 ghost use Rattle.row_store.specs.Taken.{StandsFor};
 
 use crate::finding::{clashes, clashes_elsewhere};
-use crate::key_set::{any_taken, any_taken_by_another, has_same_keys, keys_of, put_keys, take_keys};
+use crate::key_set::{
+    any_taken, any_taken_by_another, has_same_keys, keys_of, put_keys, take_keys,
+};
 use crate::row::Row;
 use crate::unique_key::UniqueKey;
 use data_model::{ColumnList, TableDef};
@@ -173,11 +175,7 @@ fn look_up_elsewhere(
     ensures { IfOk result (λ said. said ≡ list_any (clash table.now cells.now) (remove rows.now at)) }
 {
     let keys = keys_of(alloc, taken.columns.as_slice(), cells)?;
-    Ok(any_taken_by_another(
-        &taken.keys,
-        keys.as_slice(),
-        rows[at].cells(),
-    ))
+    Ok(any_taken_by_another(&taken.keys, keys.as_slice(), rows[at].cells()))
 }
 
 /// Whether values clash with one of the rows, by the index where there is one.

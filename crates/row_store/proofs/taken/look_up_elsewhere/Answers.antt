@@ -1,4 +1,4 @@
-use Rattle.std.proofs.Common.{Bool, ◌&&◌, not, ◌∙◌, ap}
+use Rattle.std.proofs.Common.{◌&&◌, not, ◌∙◌, ap}
 use Rattle.std.specs.List.{list_any}
 use Rattle.std.specs.BTreeSet.{contains}
 use Rattle.data_model.specs.Rows.{Row}

@@ -1,4 +1,4 @@
-use Rattle.std.proofs.Common.{◌≡◌, ◌∙◌, sym, ap, subst, get_or}
+use Rattle.std.proofs.Common.{◌∙◌, ap}
 use Rattle.std.specs.BTreeSet.{contains}
 use Rattle.row_store.specs.UniqueKeys.{key_order, keys_at}
 use Rattle.row_store.proofs.TakenLaws.{shrink}
