@@ -2,4 +2,5 @@ pub mod GraphRules
 pub mod PartRules
 pub mod PlaceRules
 pub mod ReachRules
+pub mod RepeatRules
 pub mod TruthRules

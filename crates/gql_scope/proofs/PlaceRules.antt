@@ -1,19 +1,18 @@
 -- The places of names.
-use Rattle.std.proofs.Common.{◌≡◌, ◌∙◌, sym, ap, refl, subst, arith, ◌<◌, ◌+◌, ◌-◌, take, drop, get_or, ℕ, zero, suc, Bool, true, false, if◌then◌else◌, List, [], ◌∷◌, ◌++◌, length, map, Option, Some, None}
+use Rattle.std.proofs.Common.{◌≡◌, ◌∙◌, sym, ap, refl, subst, arith, ◌<◌, ◌+◌, ◌-◌, take, ℕ, zero, suc, Bool, true, false, if◌then◌else◌, List, [], ◌∷◌, ◌++◌, length, map, Option, Some, None}
 use denote.Ref.{Bor}
 use Rattle.std.specs.Prelude.{◌||◌, option_map, option_and_then, is_some, unwrap_or, find}
 use Rattle.std.specs.Option.{option_flatten}
-use Rattle.std.specs.Bool.{MatchBool}
 use Rattle.std.specs.List.{list_any, slice_get}
 use Rattle.std.specs.Str.{bytes_eq}
 use Rattle.std.specs.BTreeMap.{BTreeMap}
-use Rattle.std.proofs.lemmas.List.{map-append, length-map, length-append, take-append-le, drop_more}
+use Rattle.std.proofs.lemmas.List.{map-append, length-map, length-append, take-append-le}
 use Rattle.std.proofs.Math.Seq.{take-length}
 use Rattle.std.proofs.lemmas.List.Recursion.{is_position_or_len}
 use Rattle.std.proofs.lemmas.Map.Text.{btree_map_updates_str}
 use Rattle.gql_scope.proofs.TruthRules.{same_text, own_text}
 use Rattle.request_model.specs.Strings.{Text}
-use Rattle.request_model.specs.Selection.{Fragment, fragment_named, variable_bool, given_values, repeats}
+use Rattle.request_model.specs.Selection.{Fragment, fragment_named, variable_bool, given_values}
 use Rattle.request_model.specs.declared.document.VarDef.{VarDef}
 use Rattle.serde_json.specs.View.{view}
 use Rattle.gql_scope.specs.Scopes.{Given, AreVariables}
@@ -25,7 +24,7 @@ same_truth true c f g = sym (f refl)
 same_truth false true f g = g refl
 same_truth false false f g = refl
 
-turned : (s t : Text) → bytes_eq s t ≡ bytes_eq t s
+pub turned : (s t : Text) → bytes_eq s t ≡ bytes_eq t s
 turned s t = same_truth (bytes_eq s t) (bytes_eq t s)
     (λ h. ap (λ u. bytes_eq t u) (same_text s t h) ∙ own_text t)
     (λ h. ap (λ u. bytes_eq s u) (same_text t s h) ∙ own_text s)
@@ -240,65 +239,3 @@ module _ (now : Given) (names : List Text) (booleans : List (Option Bool)) (t : 
 
   pub none_named : None ≡ first_at names t → None ≡ decided
   none_named e = named_at None e
-
--- ---- names that repeat
-
--- one of the names is among those that were seen, or two of them are the same
-abbrev pub some_again : List Text → List Text → Bool
-some_again seen names = list_any (λ t. list_any (bytes_eq t) seen) names || repeats names
-
-any_more : (t u : Text) (seen : List Text) → list_any (bytes_eq u) (seen ++ t ∷ []) ≡ (list_any (bytes_eq u) seen || bytes_eq t u)
-any_more t u [] = or_none (bytes_eq u t) ∙ turned u t
-  where
-    or_none : (b : Bool) → (b || false) ≡ b
-    or_none true = refl
-    or_none false = refl
-any_more t u (s ∷ seen) = ap (λ b. bytes_eq u s || b) (any_more t u seen) ∙ or_or (bytes_eq u s) (list_any (bytes_eq u) seen) (bytes_eq t u)
-  where
-    or_or : (a b c : Bool) → (a || (b || c)) ≡ ((a || b) || c)
-    or_or true b c = refl
-    or_or false b c = refl
-
-any_either : (t : Text) (seen ns : List Text) → list_any (λ u. list_any (bytes_eq u) (seen ++ t ∷ [])) ns ≡ (list_any (λ u. list_any (bytes_eq u) seen) ns || list_any (bytes_eq t) ns)
-any_either t seen [] = refl
-any_either t seen (u ∷ us) =
-    ap (λ b. b || list_any (λ v. list_any (bytes_eq v) (seen ++ t ∷ [])) us) (any_more t u seen)
-    ∙ ap (λ b. (list_any (bytes_eq u) seen || bytes_eq t u) || b) (any_either t seen us)
-    ∙ mixed (list_any (bytes_eq u) seen) (bytes_eq t u) (list_any (λ v. list_any (bytes_eq v) seen) us) (list_any (bytes_eq t) us)
-  where
-    mixed : (a b c d : Bool) → ((a || b) || (c || d)) ≡ ((a || c) || (b || d))
-    mixed true b c d = refl
-    mixed false true true d = refl
-    mixed false true false d = refl
-    mixed false false c d = refl
-
-grouped : (a b c : Bool) → ((a || b) || c) ≡ (a || (b || c))
-grouped true b c = refl
-grouped false b c = refl
-
--- a name that wasn't seen is seen now
-again_after : (t : Text) (seen ns : List Text) → list_any (bytes_eq t) seen ≡ false → some_again seen (t ∷ ns) ≡ some_again (seen ++ t ∷ []) ns
-again_after t seen ns new =
-    ap (λ b. (b || list_any (λ u. list_any (bytes_eq u) seen) ns) || (list_any (bytes_eq t) ns || repeats ns)) new
-    ∙ sym (grouped (list_any (λ u. list_any (bytes_eq u) seen) ns) (list_any (bytes_eq t) ns) (repeats ns))
-    ∙ sym (ap (λ b. b || repeats ns) (any_either t seen ns))
-
-again_step : (first : Bool) (t : Text) (seen after ns : List Text) → first ≡ true →
-    MatchBool first ((list_any (bytes_eq t) seen ≡ false) × (after ≡ seen ++ t ∷ [])) ((list_any (bytes_eq t) seen ≡ true) × (after ≡ seen)) → some_again after ns ≡ some_again seen (t ∷ ns)
-again_step true t seen after ns e h = ap (λ s. some_again s ns) h.1 ∙ sym (again_after t seen ns h.0)
-again_step false t seen after ns e h = cc
-
-pub again_step_at : (names : List (Bor Text)) (i : ℕ) (name : Bor Text) (first : Bool) (seen after : List Text) → i < length names → name ≡ get_or names i name → first ≡ true →
-    MatchBool first ((list_any (bytes_eq name.now) seen ≡ false) × (after ≡ seen ++ name.now ∷ [])) ((list_any (bytes_eq name.now) seen ≡ true) × (after ≡ seen)) →
-    some_again after (map (λ n. n.now) (drop (i + 1) names)) ≡ some_again seen (map (λ n. n.now) (drop i names))
-again_step_at names i name first seen after lt e new h =
-    again_step first name.now seen after (map (λ n. n.now) (drop (i + 1) names)) new h
-    ∙ ap (λ n. some_again seen (map (λ m. m.now) (n ∷ drop (i + 1) names))) e
-    ∙ sym (ap (λ ns. some_again seen (map (λ n. n.now) ns)) (drop_more names i name lt))
-
-pub none_again : (ns : List Text) → some_again [] ns ≡ repeats ns
-none_again ns = ap (λ b. b || repeats ns) (none ns)
-  where
-    none : (ns : List Text) → list_any (λ u. list_any (bytes_eq u) []) ns ≡ false
-    none [] = refl
-    none (n ∷ ns) = none ns

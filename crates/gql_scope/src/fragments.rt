@@ -66,6 +66,7 @@ impl<'a> Fragments<'a> {
         self.items.as_slice()
     }
 
+    /// How many there are.
     pub fn count(&self) -> usize
         ensures { result ≡ length self.now }
     {

@@ -10,6 +10,8 @@ mod operation;
 mod refusals;
 mod scope;
 mod spreads;
+#[cfg(test)]
+mod tests;
 mod walks;
 
 pub use fragments::Fragments;

@@ -137,7 +137,7 @@ impl<'a> Names<'a> {
 }
 
 /// Whether two of the names are the same.
-#[tactic(auto, using(crate::proofs::PlaceRules::none_again))]
+#[tactic(auto, using(crate::proofs::RepeatRules::none_again))]
 pub fn repeats(alloc: Global, names: &[&Str]) -> Result<bool, NoMemory>
     ensures { IfOk result (λ twice. twice ≡ spec.repeats (map (λ n. n.now) names.now)) }
 {

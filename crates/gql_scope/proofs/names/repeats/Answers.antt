@@ -1,5 +1,5 @@
 use Rattle.std.proofs.Common.{◌∙◌}
-use Rattle.gql_scope.proofs.PlaceRules.{again_step_at}
+use Rattle.gql_scope.proofs.RepeatRules.{again_step_at}
 use Rattle.gql_scope.proofs.names.repeats.Goals as goal
 
 pub loop-name-preserved : goal.loop-name-preserved

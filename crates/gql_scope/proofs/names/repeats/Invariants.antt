@@ -1,6 +1,6 @@
 use Rattle.std.proofs.Common.{◌≡◌, map, drop}
 use Rattle.request_model.specs.Selection as spec
-use Rattle.gql_scope.proofs.PlaceRules.{some_again}
+use Rattle.gql_scope.proofs.RepeatRules.{some_again}
 use Rattle.gql_scope.proofs.names.repeats.Given as goal
 
 abbrev pub invariant-loop-name : goal.invariant-loop-name
