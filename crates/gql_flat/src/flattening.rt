@@ -15,7 +15,8 @@ use crate::collecting::{collected, conditions_of, groups_of};
 use crate::copies::copy_variables;
 use crate::fields::{Tally, copy_texts, fields};
 use gql_scope::{
-    Fragment, Fragments, Operation, Scope, chosen, first_refusal, fragments_of, operations_of, repeats,
+    Fragment, Fragments, Operation, Scope, chosen, first_refusal, fragments_of, operations_of,
+    repeats,
 };
 use json_out::Request;
 use request_model::{Document, Flat, FlatFault, FlatFieldList, OpWord, StrList, VarDef, Word};
