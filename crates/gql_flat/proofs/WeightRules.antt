@@ -1,5 +1,5 @@
 -- A stack weighs less with each turn.
-use Rattle.std.proofs.Common.{◌≡◌, ◌∙◌, ◌<◌, ◌≤◌, ◌+◌, sym, ap, refl, arith, subst, ℕ, zero, suc, List, [], ◌∷◌, ◌++◌, map, Option, Some, None}
+use Rattle.std.proofs.Common.{◌≡◌, ◌∙◌, ◌<◌, ◌≤◌, ◌+◌, sym, ap, arith, subst, ℕ, zero, suc, List, [], ◌∷◌, ◌++◌, Option, Some, None}
 use Rattle.std.proofs.lemmas.List.{append-nil}
 use Rattle.request_model.specs.declared.document.Directive.{Directive}
 use Rattle.request_model.specs.declared.document.GPair.{GPair}
@@ -8,7 +8,7 @@ use Rattle.request_model.specs.declared.document.Selection.TheVariants as s
 use Rattle.request_model.specs.declared.document.Selection.TheVariants.{rolls-Field, rolls-Spread, rolls-Inline}
 use Rattle.request_model.specs.declared.document.Selection.TheFolds.{fold-roll-Selection}
 use Rattle.request_model.specs.Strings.{Text}
-use Rattle.request_model.specs.Selection.{Fragment, fragment_named, sum_of}
+use Rattle.request_model.specs.Selection.{Fragment, fragment_named}
 use Rattle.gql_flat.specs.Collecting.{Frame, frames_of, weight_step, weight_one, weight_all, weight_inside, spread_weight, frame_weight, stack_weight}
 
 pub of_field : (spread : Text → ℕ) (alias : Option Text) (name : Text) (args : List GPair) (ds : List Directive) (set : List Selection) → weight_one spread (s.Field alias name args ds set) ≡ 1
