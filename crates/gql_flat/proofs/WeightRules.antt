@@ -1,5 +1,5 @@
 -- A stack weighs less with each turn.
-use Rattle.std.proofs.Common.{◌≡◌, ◌∙◌, ◌<◌, ◌≤◌, ◌+◌, sym, ap, arith, subst, ℕ, zero, suc, List, [], ◌∷◌, ◌++◌, Option, Some, None}
+use Rattle.std.proofs.Common.{◌≡◌, ◌∙◌, ◌<◌, ◌≤◌, ◌+◌, sym, ap, arith, subst, ℕ, suc, List, [], ◌∷◌, ◌++◌, Option, Some}
 use Rattle.std.proofs.lemmas.List.{append-nil}
 use Rattle.request_model.specs.declared.document.Directive.{Directive}
 use Rattle.request_model.specs.declared.document.GPair.{GPair}
@@ -31,14 +31,6 @@ module _ (fs : List Fragment) where
   put_weight : (stack : List Frame) (depth : ℕ) (set : List Selection) → stack_weight fs (stack ++ frames_of depth set) ≤ stack_weight fs stack + (1 + weight_all (spread_weight fs depth) set)
   put_weight stack depth [] = nothing_more (stack ++ []) stack (append-nil stack)
   put_weight stack depth (x ∷ xs) = omega (arith, one_more stack (record { rest = x ∷ xs; depth = depth }))
-
-  inside_positive : (inner : List Selection → ℕ) (o : Option Fragment) → 0 < weight_inside inner o
-  inside_positive inner None = omega arith
-  inside_positive inner (Some f) = omega arith
-
-  pub positive : (depth : ℕ) (name : Text) → 0 < spread_weight fs depth name
-  positive zero name = omega arith
-  positive (suc depth) name = inside_positive (weight_all (spread_weight fs depth)) (fragment_named fs name)
 
   entered : (depth less : ℕ) (name : Text) (f : Fragment) → depth ≡ less + 1 → fragment_named fs name ≡ Some f → spread_weight fs depth name ≡ 2 + weight_all (spread_weight fs less) f.select
   entered depth less name f ed ef =
