@@ -2,7 +2,6 @@
 use Rattle.std.proofs.Common.{◌≡◌, ◌∙◌, ◌<◌, sym, ap, refl, arith, subst, ℕ, zero, suc, Bool, true, false, if◌then◌else◌, List, [], ◌∷◌, ◌++◌, length, get_or, set, Option, Some, None}
 use Rattle.std.specs.Prelude.{option_map}
 use Rattle.std.specs.Str.{bytes_eq}
-use Rattle.std.proofs.lemmas.List.{map-append}
 use Rattle.request_model.specs.Strings.{Text}
 use Rattle.request_model.specs.Selection.{Selected, Group, grouped}
 use Rattle.gql_scope.specs.Places.{first_at}
@@ -42,12 +41,7 @@ joins f gs keys key at g ek same eo e = (groups_are f gs keys key (Some at) ek s
 pub begins : (f : Selected) (gs : List Group) (keys : List Text) (key : Text) → keys ≡ keys_of gs → key ≡ f.key → None ≡ first_at keys key → gs ++ record { first = f; others = [] } ∷ [] ≡ grouped f gs
 begins f gs keys key ek same eo = groups_are f gs keys key None ek same eo
 
--- ---- keys
-
 pub keys_stay : (gs : List Group) (at : ℕ) (g h : Group) → g ≡ get_or gs at g → h.first ≡ g.first → keys_of (set gs at h) ≡ keys_of gs
 keys_stay [] at g h eg eh = refl
 keys_stay (x ∷ gs) zero g h eg eh = ap (λ (k : Selected). k.key ∷ keys_of gs) (eh ∙ ap (λ (y : Group). y.first) eg)
 keys_stay (x ∷ gs) (suc at) g h eg eh = ap (λ ks. x.first.key ∷ ks) (keys_stay gs at g h eg eh)
-
-pub keys_more : (gs after : List Group) (f : Selected) (others : List Selected) (keys : List Text) → keys ≡ keys_of gs → after ≡ gs ++ record { first = f; others = others } ∷ [] → keys ++ f.key ∷ [] ≡ keys_of after
-keys_more gs after f others keys ek e = ap (λ ks. ks ++ f.key ∷ []) ek ∙ sym (ap keys_of e ∙ map-append (λ (g : Group). g.first.key) gs (record { first = f; others = others } ∷ []))

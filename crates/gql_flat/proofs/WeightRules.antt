@@ -1,5 +1,5 @@
 -- A stack weighs less with each turn.
-use Rattle.std.proofs.Common.{◌≡◌, ◌∙◌, ◌<◌, ◌≤◌, ◌+◌, sym, ap, arith, subst, ℕ, zero, suc, List, [], ◌∷◌, ◌++◌, Option, Some, None}
+use Rattle.std.proofs.Common.{◌≡◌, ◌∙◌, ◌<◌, ◌≤◌, ◌+◌, sym, ap, arith, subst, ℕ, suc, List, [], ◌∷◌, ◌++◌, Option, Some}
 use Rattle.std.proofs.lemmas.List.{append-nil}
 use Rattle.request_model.specs.declared.document.Directive.{Directive}
 use Rattle.request_model.specs.declared.document.GPair.{GPair}
@@ -21,26 +21,18 @@ pub of_inline : (spread : Text → ℕ) (on : Option Text) (ds : List Directive)
 of_inline spread on ds set = ap (weight_one spread) (sym (rolls-Inline on ds set)) ∙ fold-roll-Selection ℕ (weight_step spread) _
 
 module _ (fs : List Fragment) where
-  pub one_more : (stack : List Frame) (f : Frame) → stack_weight fs (stack ++ f ∷ []) ≡ stack_weight fs stack + frame_weight fs f
+  one_more : (stack : List Frame) (f : Frame) → stack_weight fs (stack ++ f ∷ []) ≡ stack_weight fs stack + frame_weight fs f
   one_more [] f = omega arith
   one_more (g ∷ stack) f = omega (arith, one_more stack f)
 
   nothing_more : (after stack : List Frame) → after ≡ stack → stack_weight fs after ≤ stack_weight fs stack + 1
   nothing_more after stack e = let same : stack_weight fs after ≡ stack_weight fs stack = ap (stack_weight fs) e in omega (arith, same)
 
-  pub put_weight : (stack : List Frame) (depth : ℕ) (set : List Selection) → stack_weight fs (stack ++ frames_of depth set) ≤ stack_weight fs stack + (1 + weight_all (spread_weight fs depth) set)
+  put_weight : (stack : List Frame) (depth : ℕ) (set : List Selection) → stack_weight fs (stack ++ frames_of depth set) ≤ stack_weight fs stack + (1 + weight_all (spread_weight fs depth) set)
   put_weight stack depth [] = nothing_more (stack ++ []) stack (append-nil stack)
   put_weight stack depth (x ∷ xs) = omega (arith, one_more stack (record { rest = x ∷ xs; depth = depth }))
 
-  inside_positive : (inner : List Selection → ℕ) (o : Option Fragment) → 0 < weight_inside inner o
-  inside_positive inner None = omega arith
-  inside_positive inner (Some f) = omega arith
-
-  pub positive : (depth : ℕ) (name : Text) → 0 < spread_weight fs depth name
-  positive zero name = omega arith
-  positive (suc depth) name = inside_positive (weight_all (spread_weight fs depth)) (fragment_named fs name)
-
-  pub entered : (depth less : ℕ) (name : Text) (f : Fragment) → depth ≡ less + 1 → fragment_named fs name ≡ Some f → spread_weight fs depth name ≡ 2 + weight_all (spread_weight fs less) f.select
+  entered : (depth less : ℕ) (name : Text) (f : Fragment) → depth ≡ less + 1 → fragment_named fs name ≡ Some f → spread_weight fs depth name ≡ 2 + weight_all (spread_weight fs less) f.select
   entered depth less name f ed ef =
       let next : depth ≡ suc less = omega (arith, ed) in
       ap (λ n. spread_weight fs n name) next ∙ ap (weight_inside (weight_all (spread_weight fs less))) ef
@@ -50,9 +42,6 @@ module _ (fs : List Fragment) where
 
   pub inline_falls : (stack after : List Frame) (depth : ℕ) (set : List Selection) → after ≡ stack ++ frames_of depth set → stack_weight fs after < stack_weight fs stack + (2 + weight_all (spread_weight fs depth) set)
   inline_falls stack after depth set e = omega (arith, put_below stack after depth set e)
-
-  pub stays_below : (stack : List Frame) (depth : ℕ) (name : Text) → stack_weight fs stack < stack_weight fs stack + spread_weight fs depth name
-  stays_below stack depth name = omega (arith, positive depth name)
 
   pub spread_falls : (stack after : List Frame) (depth less : ℕ) (name : Text) (f : Fragment) (set : List Selection) → depth ≡ less + 1 → fragment_named fs name ≡ Some f → set ≡ f.select → after ≡ stack ++ frames_of less set →
       stack_weight fs after < stack_weight fs stack + spread_weight fs depth name
