@@ -1,0 +1,3 @@
+pub mod Identities
+pub mod Maps
+pub mod Reading
