@@ -28,7 +28,8 @@ impl Model for ReasonText {
 
 impl ReasonText {
     fn as_bytes(&self) -> &[u8]
-        ensures { result.now ≡ self.now }
+        ensures bytes { result.now ≡ self.now }
+        ensures short { length result.now ≤ 123 }
     {
         &self.bytes[..self.len]
     }
@@ -70,9 +71,10 @@ impl CloseReason {
         }
     }
 
-    /// The reason, in UTF-8.
+    /// The reason, in UTF-8, in at most 123 bytes.
     pub fn text(&self) -> &[u8]
-        ensures { result.now ≡ closes.reason (close_meant self.now) }
+        ensures reason { result.now ≡ closes.reason (close_meant self.now) }
+        ensures short { length result.now ≤ 123 }
     {
         match self {
             CloseReason::Invalid => b"Invalid message",
