@@ -1,0 +1,4 @@
+pub mod Appends
+pub mod ByType
+pub mod Cut
+pub mod Others
