@@ -1,0 +1,6 @@
+//! What holds of the definitions of requests, plans and results, proved. It has no logic and no data.
+#![tactic(auto)]
+
+mod laws;
+
+pub use laws::requests;
