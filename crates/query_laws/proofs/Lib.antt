@@ -1,2 +1,6 @@
 pub mod OneDocument
 pub mod OneAnswer
+pub mod BareArguments
+pub mod BareNames
+pub mod OnePlan
+pub mod Pollers

@@ -1,7 +1,14 @@
-ghost use Rattle.query_model.specs.Laws.{AdmitsOnce};
+ghost use Rattle.query_model.specs.Laws.{AdmitsOnce, PollersHaveOnePlan};
 
 /// A request comes to one answer: its text has one first fault or says one document, and that is refused in one way or
 /// admitted with one query and one initial cursor. Nobody can be told two answers to the same request.
 pub fn requests()
     ensures once { AdmitsOnce }
+{}
+
+/// Admitted queries of one poller, of the same word, role and canonical text, have one plan, whatever their variables,
+/// session variables and cursors: the order of arguments, the declared variables and the value in a cursor's
+/// `initial_value` leave no trace in a plan.
+pub fn pollers()
+    ensures plan { PollersHaveOnePlan }
 {}

@@ -3,4 +3,4 @@
 
 mod laws;
 
-pub use laws::requests;
+pub use laws::{pollers, requests};
