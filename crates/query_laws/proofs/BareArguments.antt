@@ -12,7 +12,7 @@ use Rattle.role_model.specs.Roles.{View, column_seen}
 use Rattle.request_model.specs.declared.document.GValue.{GValue}
 use Rattle.request_model.specs.declared.document.GValue.TheVariants as v
 use Rattle.request_model.specs.declared.document.GValue.TheOpen.{GValue-F, GPair-F}
-use Rattle.request_model.specs.declared.document.GValue.TheViews.{out-GValue, outs-Many, outs-Object, out-GPair, roll-GPair, roll-out-GPair, out-roll-GPair}
+use Rattle.request_model.specs.declared.document.GValue.TheViews.{out-GValue, outs-Many, outs-Object, out-GPair, roll-out-GPair, out-roll-GPair}
 use Rattle.request_model.specs.declared.document.GPair.{GPair}
 use Rattle.request_model.specs.Strings.{Text}
 use Rattle.request_model.specs.Ordered.{placed, ordered}

@@ -3,4 +3,4 @@ pub mod OneAnswer
 pub mod BareArguments
 pub mod BareNames
 pub mod OnePlan
-pub mod Pollers
+pub mod SharedPlans

@@ -3,16 +3,13 @@ use Rattle.std.proofs.Common.{◌≡◌, ℕ, Bool, true, false, if◌then◌els
 use std.Path.{fun_ext}
 use Rattle.std.specs.Prelude.{codes}
 use Rattle.std.specs.List.{AllByRecursion}
-use Rattle.scalar_val.specs.declared.val.Kind.{Kind}
 use Rattle.scalar_val.specs.declared.val.Val.{Val}
 use Rattle.scalar_val.specs.declared.val.Val.TheVariants as val
 use Rattle.role_model.specs.declared.filter.Filter.{Filter}
 use Rattle.role_model.specs.declared.filter.Op.TheVariants.{Eq}
-use Rattle.role_model.specs.declared.filter.Operand.{Operand}
 use Rattle.role_model.specs.declared.filter.Operand.TheVariants.{Const}
 use Rattle.role_model.specs.declared.filter.Filter.TheVariants as filter
 use Rattle.role_model.specs.declared.metadata.LinkDef.{LinkDef}
-use Rattle.role_model.specs.declared.metadata.Metadata.{Metadata}
 use Rattle.role_model.specs.declared.plan.Shape.TheVariants as shape
 use Rattle.role_model.specs.declared.plan.Field.{Field}
 use Rattle.role_model.specs.declared.plan.Field.TheVariants as field
@@ -34,7 +31,7 @@ use Rattle.request_model.specs.Strings.{Text}
 use Rattle.request_model.specs.Ordered.{distinct_in_order}
 use Rattle.request_model.specs.SelectionLaws.{bare_step, bare_field, essence}
 use Rattle.request_model.proofs.ReadArguments.{firsts}
-use Rattle.query_model.specs.Names.{null_or_fitted, Root, RowsOf, RowOf, StreamOf, NoRoot, Meant, Typename, AColumn, ALink, Unseen, meant, root_meant, key_columns, column_name, kind_of, argument, literal_by, variable_by, initial_column, descends}
+use Rattle.query_model.specs.Names.{null_or_fitted, Root, RowsOf, RowOf, StreamOf, NoRoot, Meant, Typename, AColumn, ALink, Unseen, meant, root_meant, key_columns, column_name, kind_of, argument, literal_by, variable_by}
 use Rattle.query_model.specs.Conditions.{where_filter, orders_in}
 use Rattle.query_model.specs.Queries.{SessionSlot, slot_cmp, table_slots, tables_step, tables_below, root_tables, root_of, selection_slots, text_variables}
 use Rattle.query_model.specs.Plans.{operand_by, operands, permission, count_operand, list_select, one_select, column_condition, key_condition, batch_operand, stream_select, link_select, meant_field, plan_step, plan_field, root_select, plan_with, root_plan, plan_of}

@@ -1,4 +1,4 @@
-use Rattle.query_laws.proofs.Pollers.{pollers_have_one_plan}
+use Rattle.query_laws.proofs.SharedPlans.{pollers_have_one_plan}
 use Rattle.query_laws.proofs.laws.pollers.Goals as goal
 
 pub returns : goal.returns

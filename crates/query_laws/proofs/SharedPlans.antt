@@ -1,5 +1,5 @@
 -- Queries of one poller have one plan.
-use Rattle.std.proofs.Common.{◌≡◌, List, Option, Some, None, Result, Ok, Err, refl, ap, ap₂, sym, subst, ◌∙◌}
+use Rattle.std.proofs.Common.{◌≡◌, List, Option, Some, None, Result, Ok, Err, refl, ap₂, sym, subst, ◌∙◌}
 use Rattle.std.specs.Prelude.{IsTrue}
 use Rattle.serde_json.specs.Data.{Members}
 use Rattle.role_model.specs.declared.metadata.Metadata.{Metadata}
@@ -10,7 +10,7 @@ use Rattle.request_model.specs.SelectionLaws.{is_written, essence}
 use Rattle.request_model.proofs.ReadFields.{canonical_tells}
 use Rattle.query_model.specs.declared.fault.QueryFault.{QueryFault}
 use Rattle.query_model.specs.Variables.{Variable}
-use Rattle.query_model.specs.Queries.{SessionValue, SamePoller, selection_slots, view_of}
+use Rattle.query_model.specs.Queries.{SessionValue, selection_slots, view_of}
 use Rattle.query_model.specs.Walk.{walk_fault}
 use Rattle.query_model.specs.Admission.{Admitted, admitted, and_next, unless_fault, one_root, variables_of, slots_given, role_view, query_with}
 use Rattle.query_model.specs.Laws.{IsAdmitted, PollersHaveOnePlan}
