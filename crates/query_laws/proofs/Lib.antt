@@ -4,3 +4,6 @@ pub mod BareArguments
 pub mod BareNames
 pub mod OnePlan
 pub mod SharedPlans
+pub mod BareResults
+pub mod AgreedValues
+pub mod SharedResults

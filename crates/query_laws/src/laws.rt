@@ -1,4 +1,4 @@
-ghost use Rattle.query_model.specs.Laws.{AdmitsOnce, PollersHaveOnePlan};
+ghost use Rattle.query_model.specs.Laws.{AdmitsOnce, PollersHaveOnePlan, CohortsHaveOneResult};
 
 /// A request comes to one answer: its text has one first fault or says one document, and that is refused in one way or
 /// admitted with one query and one initial cursor. Nobody can be told two answers to the same request.
@@ -11,4 +11,11 @@ pub fn requests()
 /// `initial_value` leave no trace in a plan.
 pub fn pollers()
     ensures plan { PollersHaveOnePlan }
+{}
+
+/// Admitted queries of one cohort, of one poller and with equal bindings, have one result on each database. A binding has
+/// the values of the variables that stand in the canonical text, those of the session variables that the role's filters
+/// name, and the cursor, and a result depends on no others.
+pub fn cohorts()
+    ensures result { CohortsHaveOneResult }
 {}
