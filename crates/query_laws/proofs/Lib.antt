@@ -7,3 +7,4 @@ pub mod SharedPlans
 pub mod BareResults
 pub mod AgreedValues
 pub mod SharedResults
+pub mod PlansThere

@@ -1,9 +1,14 @@
-ghost use Rattle.query_model.specs.Laws.{AdmitsOnce, PollersHaveOnePlan, CohortsHaveOneResult};
+ghost use Rattle.query_model.specs.Laws.{AdmitsOnce, PlansAreThere, PollersHaveOnePlan, CohortsHaveOneResult};
 
 /// A request comes to one answer: its text has one first fault or says one document, and that is refused in one way or
 /// admitted with one query and one initial cursor. Nobody can be told two answers to the same request.
 pub fn requests()
     ensures once { AdmitsOnce }
+{}
+
+/// Each admitted query has a plan: admission leaves no query without one.
+pub fn plans()
+    ensures there { PlansAreThere }
 {}
 
 /// Admitted queries of one poller, of the same word, role and canonical text, have one plan, whatever their variables,

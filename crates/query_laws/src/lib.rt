@@ -3,4 +3,4 @@
 
 mod laws;
 
-pub use laws::{cohorts, pollers, requests};
+pub use laws::{cohorts, plans, pollers, requests};

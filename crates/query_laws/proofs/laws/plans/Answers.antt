@@ -1,0 +1,5 @@
+use Rattle.query_laws.proofs.PlansThere.{plans_are_there}
+use Rattle.query_laws.proofs.laws.plans.Goals as goal
+
+pub returns : goal.returns
+returns c = record { there = plans_are_there }
