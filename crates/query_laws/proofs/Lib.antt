@@ -8,3 +8,13 @@ pub mod BareResults
 pub mod AgreedValues
 pub mod SharedResults
 pub mod PlansThere
+pub mod Positions
+pub mod RoleFilters
+pub mod GoodMetadata
+pub mod FittingFilters
+pub mod TypedValues
+pub mod PassedValues
+pub mod PassedConditions
+pub mod FittingSelects
+pub mod FittingPlans
+pub mod PlansThatFit
