@@ -1,0 +1,9 @@
+use crate::{cohorts, plans, pollers, requests};
+
+#[test]
+fn laws_take_no_time() {
+    requests();
+    plans();
+    pollers();
+    cohorts();
+}
