@@ -1,0 +1,84 @@
+ghost use Rattle.std.specs.Prelude.{◌≡◌, ◌++◌, IsTrue, IfOk, OnOk};
+ghost use Rattle.data_model.specs.Rows.{cell};
+ghost use Rattle.role_model.specs.declared.filter.Binding.{Binding};
+ghost use Rattle.query_model.specs.Taken.{last_row, last_value};
+ghost use Rattle.query_model.specs.Plans.{PlanFits, BindingFits, planned};
+ghost use Rattle.nested_eval.specs.Seen.{seen};
+ghost use Rattle.nested_eval.specs.Selections.{extent};
+ghost use Rattle.nested_eval.specs.Outcomes.{outcome_of};
+
+use crate::cut::taken;
+use crate::rows::{Join, Setting, arranged_rows};
+use crate::values::cell_at;
+use crate::write::{put_answer, put_key};
+use json_out::Outcome;
+use plan_core::{Binding, Plan, Select, Shape};
+use row_store::{Row, Snapshot};
+use scalar_val::{Bytes, NoMemory, Steps, Val, copy_val};
+use std::alloc::Global;
+use std::sync::ledger::Ledger;
+
+fn cell_of_last(alloc: Global, column: u32, rows: &[&Row]) -> Result<Val, NoMemory>
+    ensures { IfOk result (λ value. value ≡ cell (last_row (seen rows.now)) column) }
+{
+    let null = Val::Null;
+    match rows.last() {
+        Some(row) => copy_val(alloc, cell_at(row.cells(), column, &null)),
+        None => Ok(Val::Null),
+    }
+}
+
+fn last_value(alloc: Global, select: &Select, rows: &[&Row]) -> Result<Val, NoMemory>
+    ensures { IfOk result (λ value. (b : Binding) → value ≡ last_value (extent b select.now) (seen rows.now)) }
+{
+    match &select.shape {
+        Shape::Stream { column, .. } => cell_of_last(alloc, *column, rows),
+        _ => Ok(Val::Null),
+    }
+}
+
+fn put(text: &[u8], out: &mut Vec<u8>) -> Result<(), NoMemory>
+    ensures { OnOk result (out.new.items ≡ out.old.items ++ text.now) }
+{
+    out.extend_from_slice(text)?;
+    Ok(())
+}
+
+/// The result of a plan with a binding on a snapshot: of each selection the rows that join their parent, in order and
+/// cut, and the text of their objects. The plan fits the snapshot's catalog, and the binding fits the plan. It counts a
+/// step for each row that it looks at, once for each parent's row; the only failure is want of memory.
+pub fn eval<L: Ledger>(
+    alloc: Global,
+    plan: &Plan,
+    binding: &Binding,
+    snapshot: &Snapshot,
+    steps: &mut Steps<L>,
+) -> Result<Outcome, NoMemory>
+    requires plan { PlanFits snapshot.now.catalog plan.now }
+    requires binding { BindingFits plan.now binding.now }
+    ensures { IfOk result (λ outcome. outcome_of outcome ≡ planned plan.now binding.now snapshot.now.tables) }
+{
+    let setting = Setting {
+        names: plan.names.as_slice(),
+        binding,
+        snapshot,
+    };
+    let nothing = Join {
+        parent: &[],
+        from: &[],
+        to: &[],
+    };
+    let arranged = arranged_rows(alloc, &setting, &plan.root, &nothing, steps)?;
+    let rows = taken(&plan.root, binding, arranged.as_slice());
+    let mut out = Vec::new(alloc);
+    put(b"{\"data\":{", &mut out)?;
+    put_key(plan.key.as_str(), &mut out)?;
+    put_answer(alloc, &setting, &plan.root, rows, steps, &mut out)?;
+    put(b"}}", &mut out)?;
+    let last = last_value(alloc, &plan.root, rows)?;
+    Ok(Outcome {
+        text: Bytes::of(out),
+        rows: rows.len() as u64,
+        last,
+    })
+}
