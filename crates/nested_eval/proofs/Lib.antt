@@ -5,3 +5,5 @@ pub mod Fitting
 pub mod Scans
 pub mod Texts
 pub mod Parts
+pub mod Readiness
+pub mod Results

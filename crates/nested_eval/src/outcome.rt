@@ -1,11 +1,10 @@
-ghost use Rattle.std.specs.Prelude.{◌≡◌, ◌++◌, IsTrue, IfOk, OnOk};
+ghost use Rattle.std.specs.Prelude.{◌≡◌, ◌++◌, map, IsTrue, IfOk, OnOk};
 ghost use Rattle.data_model.specs.Rows.{cell};
-ghost use Rattle.role_model.specs.declared.filter.Binding.{Binding};
-ghost use Rattle.query_model.specs.Taken.{last_row, last_value};
-ghost use Rattle.query_model.specs.Plans.{PlanFits, BindingFits, planned};
+ghost use Rattle.query_model.specs.Taken.{last_row, last_value, payload_text, answer_text, object_text};
+ghost use Rattle.query_model.specs.Plans.{PlanFits, BindingFits, planned, field_pair};
 ghost use Rattle.nested_eval.specs.Seen.{seen};
-ghost use Rattle.nested_eval.specs.Selections.{extent};
-ghost use Rattle.nested_eval.specs.Outcomes.{outcome_of};
+ghost use Rattle.nested_eval.specs.Selections.{extent, is_ready};
+ghost use Rattle.nested_eval.specs.Outcomes.{outcome_of, outcome_from};
 
 use crate::cut::taken;
 use crate::rows::{Join, Setting, arranged_rows};
@@ -28,20 +27,62 @@ fn cell_of_last(alloc: Global, column: u32, rows: &[&Row]) -> Result<Val, NoMemo
     }
 }
 
-fn last_value(alloc: Global, select: &Select, rows: &[&Row]) -> Result<Val, NoMemory>
-    ensures { IfOk result (λ value. (b : Binding) → value ≡ last_value (extent b select.now) (seen rows.now)) }
+fn last_value(
+    alloc: Global,
+    binding: &Binding,
+    select: &Select,
+    rows: &[&Row],
+) -> Result<Val, NoMemory>
+    ensures { IfOk result (λ value. value ≡ last_value (extent binding.now select.now) (seen rows.now)) }
 {
+    let _ = binding;
     match &select.shape {
         Shape::Stream { column, .. } => cell_of_last(alloc, *column, rows),
         _ => Ok(Val::Null),
     }
 }
 
-fn put(text: &[u8], out: &mut Vec<u8>) -> Result<(), NoMemory>
-    ensures { OnOk result (out.new.items ≡ out.old.items ++ text.now) }
+/// The payload's text, from the root's rows.
+fn payload<L: Ledger>(
+    alloc: Global,
+    setting: &Setting<'_>,
+    plan: &Plan,
+    rows: &[&Row],
+    steps: &mut Steps<L>,
+) -> Result<Bytes, NoMemory>
+    requires { IsTrue (is_ready setting.now.snapshot.now setting.now.binding.now plan.now.root) }
+    ensures { IfOk result (λ text. text ≡ payload_text plan.now.key (answer_text (extent setting.now.binding.now plan.now.root)
+        (map (object_text (map (field_pair setting.now.names.now setting.now.binding.now setting.now.snapshot.now.tables) plan.now.root.fields) plan.now.root.table) (seen rows.now)))) }
 {
-    out.extend_from_slice(text)?;
-    Ok(())
+    let mut out = Vec::new(alloc);
+    out.push(b'{')?;
+    put_key("data", &mut out)?;
+    out.push(b'{')?;
+    put_key(plan.key.as_str(), &mut out)?;
+    put_answer(alloc, setting, &plan.root, rows, steps, &mut out)?;
+    out.push(b'}')?;
+    out.push(b'}')?;
+    Ok(Bytes::of(out))
+}
+
+/// What the root's rows give.
+fn outcome<L: Ledger>(
+    alloc: Global,
+    setting: &Setting<'_>,
+    plan: &Plan,
+    rows: &[&Row],
+    steps: &mut Steps<L>,
+) -> Result<Outcome, NoMemory>
+    requires { IsTrue (is_ready setting.now.snapshot.now setting.now.binding.now plan.now.root) }
+    ensures { IfOk result (λ outcome. outcome_of outcome ≡ outcome_from setting.now.names.now setting.now.binding.now setting.now.snapshot.now.tables plan.now (seen rows.now)) }
+{
+    let text = payload(alloc, setting, plan, rows, steps)?;
+    let last = last_value(alloc, setting.binding, &plan.root, rows)?;
+    Ok(Outcome {
+        text,
+        rows: rows.len() as u64,
+        last,
+    })
 }
 
 /// The result of a plan with a binding on a snapshot: of each selection the rows that join their parent, in order and
@@ -70,15 +111,5 @@ pub fn eval<L: Ledger>(
     };
     let arranged = arranged_rows(alloc, &setting, &plan.root, &nothing, steps)?;
     let rows = taken(&plan.root, binding, arranged.as_slice());
-    let mut out = Vec::new(alloc);
-    put(b"{\"data\":{", &mut out)?;
-    put_key(plan.key.as_str(), &mut out)?;
-    put_answer(alloc, &setting, &plan.root, rows, steps, &mut out)?;
-    put(b"}}", &mut out)?;
-    let last = last_value(alloc, &plan.root, rows)?;
-    Ok(Outcome {
-        text: Bytes::of(out),
-        rows: rows.len() as u64,
-        last,
-    })
+    outcome(alloc, &setting, plan, rows, steps)
 }
