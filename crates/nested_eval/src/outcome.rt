@@ -1,5 +1,7 @@
-ghost use Rattle.std.specs.Prelude.{◌≡◌, ◌++◌, map, IsTrue, IfOk, OnOk};
+ghost use Rattle.std.specs.Prelude.{◌≡◌, ◌++◌, ◌∷◌, [], map, IsTrue, IfOk, OnOk};
+ghost use Rattle.json.specs.Print.{quoted};
 ghost use Rattle.data_model.specs.Rows.{cell};
+ghost use Rattle.request_model.specs.Canonical.{in_braces, named_text};
 ghost use Rattle.query_model.specs.Taken.{last_row, last_value, payload_text, answer_text, object_text};
 ghost use Rattle.query_model.specs.Plans.{PlanFits, BindingFits, planned, field_pair};
 ghost use Rattle.nested_eval.specs.Seen.{seen};
@@ -42,6 +44,33 @@ fn last_value(
     }
 }
 
+/// The start of an object, up to the value of its first key.
+fn put_start(key: &str, out: &mut Vec<u8>) -> Result<(), NoMemory>
+    ensures { OnOk result (out.new.items ≡ out.old.items ++ 123 ∷ quoted key.now ++ 58 ∷ []) }
+{
+    out.push(b'{')?;
+    put_key(key, out)
+}
+
+/// The object of the root's response key, from the root's rows.
+fn put_root<L: Ledger>(
+    alloc: Global,
+    setting: &Setting<'_>,
+    plan: &Plan,
+    rows: &[&Row],
+    steps: &mut Steps<L>,
+    out: &mut Vec<u8>,
+) -> Result<(), NoMemory>
+    requires { IsTrue (is_ready setting.now.snapshot.now setting.now.binding.now plan.now.root) }
+    ensures { OnOk result (out.new.items ≡ out.old.items ++ in_braces (named_text (quoted plan.now.key) (answer_text (extent setting.now.binding.now plan.now.root)
+        (map (object_text (map (field_pair setting.now.names.now setting.now.binding.now setting.now.snapshot.now.tables) plan.now.root.fields) plan.now.root.table) (seen rows.now))) ∷ [])) }
+{
+    put_start(plan.key.as_str(), out)?;
+    put_answer(alloc, setting, &plan.root, rows, steps, out)?;
+    out.push(b'}')?;
+    Ok(())
+}
+
 /// The payload's text, from the root's rows.
 fn payload<L: Ledger>(
     alloc: Global,
@@ -55,12 +84,8 @@ fn payload<L: Ledger>(
         (map (object_text (map (field_pair setting.now.names.now setting.now.binding.now setting.now.snapshot.now.tables) plan.now.root.fields) plan.now.root.table) (seen rows.now)))) }
 {
     let mut out = Vec::new(alloc);
-    out.push(b'{')?;
-    put_key("data", &mut out)?;
-    out.push(b'{')?;
-    put_key(plan.key.as_str(), &mut out)?;
-    put_answer(alloc, setting, &plan.root, rows, steps, &mut out)?;
-    out.push(b'}')?;
+    put_start("data", &mut out)?;
+    put_root(alloc, setting, plan, rows, steps, &mut out)?;
     out.push(b'}')?;
     Ok(Bytes::of(out))
 }
