@@ -47,7 +47,7 @@ all_fit : (b : Binding) (f : Filter) (n : ℕ) (rows : Rows) → IsTrue (fits n 
 all_fit b f n [] h all = tt
 all_fit b f n (r ∷ rs) h all = (subst (λ m. IsTrue (fits m b f)) (sym all.0) h, all_fit b f n rs h all.1)
 
-same_length : (tables : List TableDef) (db : Database) → FitAll tables db → length tables ≡ length db
+pub same_length : (tables : List TableDef) (db : Database) → FitAll tables db → length tables ≡ length db
 same_length [] [] h = refl
 same_length [] (rows ∷ db) h = absurd h
 same_length (t ∷ ts) [] h = absurd h

@@ -7,3 +7,4 @@ pub mod Texts
 pub mod Parts
 pub mod Readiness
 pub mod Results
+pub mod Examples

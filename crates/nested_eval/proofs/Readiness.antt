@@ -20,7 +20,7 @@ use Rattle.query_model.specs.Plans.{width, has_column, columns_fit_step, columns
 use Rattle.nested_eval.specs.Selections.{ready_field_step, ready_select_step, is_ready, is_ready_field}
 use Rattle.nested_eval.proofs.Fitting.{both}
 
-and_in : (a b : Bool) → IsTrue a → IsTrue b → IsTrue (a && b)
+pub and_in : (a b : Bool) → IsTrue a → IsTrue b → IsTrue (a && b)
 and_in true b h k = k
 and_in false b h k = cc
 

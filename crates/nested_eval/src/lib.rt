@@ -5,6 +5,8 @@ mod cut;
 mod order;
 mod outcome;
 mod rows;
+#[cfg(test)]
+mod tests;
 mod values;
 mod write;
 
