@@ -23,3 +23,7 @@ next_told shown done scan all row e told = append_assoc done (kept (shown row) r
 pub rest_all : (P : Row → Type 0) (scan : Rows) → AllByRecursion P scan → AllByRecursion P (drop 1 scan)
 rest_all P [] h = tt
 rest_all P (r ∷ rs) h = h.1
+
+-- what is told of the rows that are kept
+pub told_kept : (shown : Row → Bool) (done now : Rows) (is_shown : Bool) (cells row : Row) → now ≡ done ++ kept is_shown row → is_shown ≡ shown cells → cells ≡ row → now ≡ done ++ kept (shown row) row
+told_kept shown done now is_shown cells row told is same = told ∙ ap (λ b. done ++ kept b row) (is ∙ ap shown same)

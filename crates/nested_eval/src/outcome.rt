@@ -1,6 +1,7 @@
 ghost use Rattle.std.specs.Prelude.{◌≡◌, ◌++◌, ◌∷◌, [], map, IsTrue, IfOk, OnOk};
 ghost use Rattle.json.specs.Print.{quoted};
 ghost use Rattle.data_model.specs.Rows.{cell};
+ghost use Rattle.role_model.specs.declared.filter.Binding.{Binding};
 ghost use Rattle.request_model.specs.Canonical.{in_braces, named_text};
 ghost use Rattle.query_model.specs.Taken.{last_row, last_value, payload_text, answer_text, object_text};
 ghost use Rattle.query_model.specs.Plans.{PlanFits, BindingFits, planned, field_pair};
@@ -29,15 +30,9 @@ fn cell_of_last(alloc: Global, column: u32, rows: &[&Row]) -> Result<Val, NoMemo
     }
 }
 
-fn last_value(
-    alloc: Global,
-    binding: &Binding,
-    select: &Select,
-    rows: &[&Row],
-) -> Result<Val, NoMemory>
-    ensures { IfOk result (λ value. value ≡ last_value (extent binding.now select.now) (seen rows.now)) }
+fn last_value(alloc: Global, select: &Select, rows: &[&Row]) -> Result<Val, NoMemory>
+    ensures { IfOk result (λ value. (b : Binding) → value ≡ last_value (extent b select.now) (seen rows.now)) }
 {
-    let _ = binding;
     match &select.shape {
         Shape::Stream { column, .. } => cell_of_last(alloc, *column, rows),
         _ => Ok(Val::Null),
@@ -102,7 +97,7 @@ fn outcome<L: Ledger>(
     ensures { IfOk result (λ outcome. outcome_of outcome ≡ outcome_from setting.now.names.now setting.now.binding.now setting.now.snapshot.now.tables plan.now (seen rows.now)) }
 {
     let text = payload(alloc, setting, plan, rows, steps)?;
-    let last = last_value(alloc, setting.binding, &plan.root, rows)?;
+    let last = last_value(alloc, &plan.root, rows)?;
     Ok(Outcome {
         text,
         rows: rows.len() as u64,

@@ -5,7 +5,7 @@ use Rattle.role_model.specs.Truth.{fits}
 use Rattle.query_model.specs.Taken.{joins}
 use Rattle.nested_eval.specs.Selections.{wanted}
 use Rattle.nested_eval.specs.Seen.{seen}
-use Rattle.nested_eval.proofs.Scans.{kept, next_told, rest_all}
+use Rattle.nested_eval.proofs.Scans.{kept, told_kept, next_told, rest_all}
 use Rattle.nested_eval.proofs.rows.shown_rows.Goals as goal
 
 pub loop-row-preserved : goal.loop-row-preserved
@@ -15,9 +15,10 @@ loop-row-preserved g c =
     let row = c.in-Some.row.now in
     let scan = c.loop-row.scan in
     let given : Some row ≡ slice_get scan 0 = search rules in
-    let kept_is : seen c.keep.new.rows.items ≡ seen c.loop-row.rows.items ++ kept (shown row) row =
-        c.in_ok-keep.ensures ∙ ap (λ b. seen c.loop-row.rows.items ++ kept b row) (c.is_shown.ensures ∙ ap shown c.cells.ensures) in
+    let done = seen c.loop-row.rows.items in
+    let now = seen c.keep.new.rows.items in
+    let kept_is : now ≡ done ++ kept (shown row) row = told_kept shown done now c.is_shown.result c.cells.result.now row c.in_ok-keep.ensures c.is_shown.ensures c.cells.ensures in
     record {
-      told = rw (kept_is, c.next.ensures.rest) (next_told shown (seen c.loop-row.rows.items) scan (filter shown c.args.scan) row given c.loop-row.invariant.told);
+      told = rw (kept_is, c.next.ensures.rest) (next_told shown done scan (filter shown c.args.scan) row given c.loop-row.invariant.told);
       fitting = rw (c.next.ensures.rest) (rest_all Fit scan c.loop-row.invariant.fitting);
     }
