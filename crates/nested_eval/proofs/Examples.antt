@@ -1,5 +1,5 @@
 -- The selections of the tests fit their table.
-use Rattle.std.proofs.Common.{◌≡◌, ◌∙◌, ◌<◌, ◌==◌, ℕ, ℤ, pos, Bool, true, false, ◌&&◌, IsTrue, List, [], ◌∷◌, map, length, nat_lt, nat_le, Option, Some, None, refl, sym, ap, subst, arith}
+use Rattle.std.proofs.Common.{◌≡◌, ◌∙◌, ◌<◌, ℕ, ℤ, Bool, true, false, ◌&&◌, IsTrue, List, [], ◌∷◌, map, length, nat_lt, nat_le, Option, Some, None, refl, sym, ap, subst, arith}
 use Rattle.std.specs.List.{AllByRecursion, list_all}
 use Rattle.std.proofs.lemmas.Bool.Decides.{nat_tests}
 use Rattle.scalar_val.specs.declared.val.Val.{Val}
@@ -23,11 +23,10 @@ use Rattle.role_model.specs.declared.plan.Field.TheFolds.{fold-Field, fold-roll-
 use Rattle.role_model.specs.declared.plan.Order.{Order}
 use Rattle.role_model.specs.declared.plan.Plan.{Plan}
 use Rattle.role_model.specs.declared.plan.Select.{Select}
-use Rattle.role_model.specs.declared.plan.Shape.{Shape}
 use Rattle.role_model.specs.declared.plan.Shape.TheVariants as shape
 use Rattle.request_model.specs.Strings.{Text}
 use Rattle.row_store.specs.Held.{Held, def_at, table_at}
-use Rattle.query_model.specs.Plans.{has_column, columns_fit, columns_fit_step, FitsAt, fits_field_step, fits_select_step, select_fits, shape_fits, PlanFits, values_fit, values_fit_step, count_fits, batch_fits, bound_field_step, bound_select_step, is_bound, BindingFits}
+use Rattle.query_model.specs.Plans.{has_column, columns_fit, columns_fit_step, FitsAt, fits_field_step, fits_select_step, select_fits, shape_fits, PlanFits, values_fit, values_fit_step, count_fits, batch_fits, bound_field_step, bound_select_step, is_bound}
 use Rattle.nested_eval.specs.Example.{whole_column, items, catalog, related, number, FieldFits, RootFits}
 use Rattle.nested_eval.proofs.Fitting.{same_length}
 use Rattle.nested_eval.proofs.Readiness.{and_in}
@@ -97,7 +96,7 @@ module _ (s : Select) (fields : AllByRecursion FieldFits s.fields) (first : s.ta
       let order : Bool = list_all (λ (o : Order). has_column catalog 0 o.column) s.order in
       let each : Bool = list_all (λ (f : ℕ → Bool). f 0) (map field_fits s.fields) in
       let all : IsTrue (((((true && joins) && shapes) && filters) && order) && each) =
-            and_in ((((true && joins) && shapes) && filters) && order) each (and_in (((true && joins) && shapes) && filters) order (and_in ((true && joins) && shapes) filters (and_in (true && joins) shapes joined shape) columns) orders) (all_columns s.fields fields) in
+      and_in ((((true && joins) && shapes) && filters) && order) each (and_in (((true && joins) && shapes) && filters) order (and_in ((true && joins) && shapes) filters (and_in (true && joins) shapes joined shape) columns) orders) (all_columns s.fields fields) in
       ap (λ (m : FitsAt catalog). m is_root to) (fold_out-Select (ℕ → Bool) (FitsAt catalog) (fits_field_step catalog) (fits_select_step catalog) s)
       ∙ subst (λ n. IsTrue (((((nat_lt n 1 && list_all (has_column catalog n) to) && shape_fits catalog is_root n s.shape) && columns_fit catalog n s.filter) && list_all (λ (o : Order). has_column catalog n o.column) s.order) && list_all (λ (f : ℕ → Bool). f n) (map field_fits s.fields))) (sym first) all
 

@@ -1,11 +1,9 @@
 -- What a database that fits its catalog, and a selection that is ready, give.
-use Rattle.std.proofs.Common.{◌≡◌, ◌∙◌, ◌<◌, ◌==◌, ℕ, zero, suc, Bool, true, false, ◌&&◌, IsTrue, List, [], ◌∷◌, length, map, Option, Some, None, slice_get, unwrap_or, option_map, refl, sym, ap, subst, arith, nat_lt}
+use Rattle.std.proofs.Common.{◌≡◌, ◌<◌, ℕ, zero, suc, Bool, true, false, ◌&&◌, IsTrue, List, [], ◌∷◌, length, map, slice_get, unwrap_or, option_map, refl, sym, ap, subst, arith, nat_lt}
 use Rattle.std.specs.List.{AllByRecursion, list_all}
 use Rattle.std.proofs.lemmas.Bool.Decides.{nat_tests}
-use Rattle.scalar_val.specs.declared.val.Val.{Val}
 use Rattle.data_model.specs.declared.catalog.Column.{Column}
 use Rattle.data_model.specs.declared.catalog.TableDef.{TableDef}
-use Rattle.data_model.specs.declared.catalog.Catalog.{Catalog}
 use Rattle.data_model.specs.Rows.{Row, Rows, Database, row_fits, stands_in, FitAll}
 use Rattle.data_model.specs.Transactions.{rows_at}
 use Rattle.role_model.specs.declared.filter.Binding.{Binding}

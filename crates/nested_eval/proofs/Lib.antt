@@ -3,7 +3,6 @@ pub mod Cuts
 pub mod Joins
 pub mod Fitting
 pub mod Scans
-pub mod Texts
 pub mod Parts
 pub mod Readiness
 pub mod Results

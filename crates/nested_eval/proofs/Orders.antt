@@ -3,16 +3,15 @@ use Rattle.std.proofs.Common.{◌≡◌, ◌∙◌, ℕ, Bool, true, false, true
 use Rattle.std.specs.Cmp.{IsTotalOrder}
 use Rattle.std.specs.Ordering.{nat_cmp, ordering_then, ordering_reverse, on, then_cmp}
 use Rattle.std.specs.declared.cmp.Ordering.{Ordering}
-use Rattle.std.specs.declared.cmp.Ordering.TheVariants.{Less, Equal, Greater}
+use Rattle.std.specs.declared.cmp.Ordering.TheVariants.{Equal}
 use Rattle.std.proofs.lemmas.Cmp.{nat_cmp_total, on_total, then_total, back_total}
 use Rattle.scalar_val.specs.declared.val.Val.{Val}
 use Rattle.scalar_val.specs.declared.val.Val.TheVariants as val
-use Rattle.scalar_val.specs.ValOrder.{val_cmp}
 use Rattle.scalar_val.proofs.OrderLaws.{val_cmp-total}
 use Rattle.data_model.specs.Rows.{Row, cell}
 use Rattle.role_model.specs.declared.plan.Order.{Order}
 use Rattle.role_model.specs.Truth.{is_null}
-use Rattle.query_model.specs.Taken.{directed, null_cmp, entry_cmp, rows_cmp}
+use Rattle.query_model.specs.Taken.{directed, null_cmp, rows_cmp}
 
 total_from : {X : Type 0} (R S : X → X → Ordering) → ((x y : X) → R x y ≡ S x y) → IsTotalOrder S → IsTotalOrder R
 total_from R S e total = record {

@@ -1,5 +1,5 @@
 -- A selection of a plan that fits, with a binding that fits, is ready.
-use Rattle.std.proofs.Common.{◌≡◌, ◌∙◌, ℕ, Bool, true, false, ◌&&◌, IsTrue, List, [], ◌∷◌, length, map, refl, sym, ap, subst, nat_lt}
+use Rattle.std.proofs.Common.{◌∙◌, ℕ, Bool, true, false, ◌&&◌, IsTrue, List, [], ◌∷◌, length, map, refl, sym, ap, subst, nat_lt}
 use Rattle.std.specs.List.{AllByRecursion, list_all}
 use Rattle.data_model.specs.declared.catalog.Catalog.{Catalog}
 use Rattle.role_model.specs.declared.filter.Binding.{Binding}
@@ -10,7 +10,7 @@ use Rattle.role_model.specs.declared.filter.Filter.TheFolds.{fold-Filter, fold-r
 use Rattle.role_model.specs.declared.plan.Field.{Field}
 use Rattle.role_model.specs.declared.plan.Field.TheOpen.{Field-F, Select-F}
 use Rattle.role_model.specs.declared.plan.Field.TheViews.{roll-Field, roll-Select}
-use Rattle.role_model.specs.declared.plan.Field.TheFolds.{fold-Field, fold-Select, fold-roll-Field, fold-roll-Select, map-Field, map-Select, ind-Select}
+use Rattle.role_model.specs.declared.plan.Field.TheFolds.{fold-Field, fold-roll-Field, fold-roll-Select, map-Field, map-Select, ind-Select}
 use Rattle.role_model.specs.declared.plan.Order.{Order}
 use Rattle.role_model.specs.declared.plan.Plan.{Plan}
 use Rattle.role_model.specs.declared.plan.Select.{Select}

@@ -1,7 +1,6 @@
 -- The parts of a plan's result.
-use Rattle.std.proofs.Common.{◌≡◌, ◌∙◌, ◌-◌, ◌+◌, ℕ, suc, List, [], ◌∷◌, length, map, filter, ap₂, Option, Some, None, slice_get, unwrap_or, refl, sym, ap, arith}
+use Rattle.std.proofs.Common.{◌≡◌, ◌∙◌, ◌-◌, ℕ, suc, List, [], ◌∷◌, length, filter, ap₂, Option, Some, slice_get, unwrap_or, refl, sym, ap, arith}
 use Rattle.std.specs.Borrow.{Bor}
-use Rattle.scalar_val.specs.declared.val.Val.{Val}
 use Rattle.data_model.specs.Rows.{Row, Rows, Database}
 use Rattle.data_model.specs.Transactions.{rows_at}
 use Rattle.query_model.specs.Taken.{Extent, All, First, Next, cut, last_row}

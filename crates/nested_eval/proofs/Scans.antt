@@ -1,5 +1,5 @@
 -- The rows that a scan has still to give.
-use Rattle.std.proofs.Common.{◌≡◌, ◌∙◌, Bool, true, false, List, [], ◌∷◌, ◌++◌, map, drop, filter, if◌then◌else◌, Option, Some, None, slice_get, unwrap_or, refl, sym, ap, append_assoc}
+use Rattle.std.proofs.Common.{◌≡◌, ◌∙◌, Bool, true, false, [], ◌∷◌, ◌++◌, drop, filter, if◌then◌else◌, Some, slice_get, unwrap_or, refl, sym, ap, append_assoc}
 use Rattle.std.specs.List.{AllByRecursion}
 use Rattle.data_model.specs.Rows.{Row, Rows}
 

@@ -12,7 +12,6 @@ use Rattle.role_model.specs.declared.filter.Operand.TheVariants.{Const}
 use Rattle.role_model.specs.declared.plan.Field.{Field}
 use Rattle.role_model.specs.declared.plan.Field.TheFolds.{fold-Field}
 use Rattle.role_model.specs.declared.plan.Shape.{Shape}
-use Rattle.role_model.specs.declared.plan.Shape.TheVariants as shape
 use Rattle.role_model.specs.declared.plan.Select.{Select}
 use Rattle.query_model.specs.Plans.{FitsAt, fits_field_step, fits_select_step, select_fits, bound_field_step, bound_select_step, is_bound}
 

@@ -37,7 +37,10 @@ fn compare_entry(order: &Order, a: &[Val], b: &[Val]) -> Ordering
     ensures { result ≡ entry_cmp order.now a.now b.now }
 {
     let null = Val::Null;
-    let (a, b) = (cell_at(a, order.column, &null), cell_at(b, order.column, &null));
+    let (a, b) = (
+        cell_at(a, order.column, &null),
+        cell_at(b, order.column, &null),
+    );
     nulls_apart(
         order.nulls_first,
         has_no_value(a),

@@ -68,7 +68,9 @@ fn passes(shape: &Shape, binding: &Binding, row: &[Val]) -> bool
 {
     match shape {
         Shape::Stream {
-            column, descending, ..
+            column,
+            descending,
+            ..
         } => {
             let null = Val::Null;
             stands_beyond(*descending, &binding.cursor, cell_at(row, *column, &null))
@@ -117,23 +119,25 @@ fn shown_rows<'a, L: Ledger>(
 {
     let mut rows = Vec::new(alloc);
     while let Some(row) = scan.next(steps) {
-        keep(
-            &mut rows,
-            row,
-            is_shown(select, binding, join, row.cells()),
-        )?;
+        keep(&mut rows, row, is_shown(select, binding, join, row.cells()))?;
     }
     Ok(rows)
 }
 
-fn arrange<'a>(select: &Select, binding: &Binding, rows: Vec<&'a Row>) -> Result<Vec<&'a Row>, NoMemory>
+fn arrange<'a>(
+    select: &Select,
+    binding: &Binding,
+    rows: Vec<&'a Row>,
+) -> Result<Vec<&'a Row>, NoMemory>
     ensures { IfOk result (λ sorted. seen sorted.items ≡ arranged (extent binding.now select.now) (seen rows.entry.items)) }
 {
     match &select.shape {
         Shape::List => in_order(rows, select.order.as_slice()),
         Shape::One => Ok(rows),
         Shape::Stream {
-            column, descending, ..
+            column,
+            descending,
+            ..
         } => {
             let order = Order {
                 column: *column,

@@ -191,7 +191,12 @@ fn number(value: u8) -> Operand
 }
 
 /// The items other than one.
-fn listed(alloc: Global, fields: FieldList, without: Val, listing: Listing) -> Result<Select, NoMemory>
+fn listed(
+    alloc: Global,
+    fields: FieldList,
+    without: Val,
+    listing: Listing,
+) -> Result<Select, NoMemory>
     requires { AllByRecursion FieldFits fields }
     ensures { IfOk result (λ select. RootFits select) }
 {
@@ -300,14 +305,21 @@ fn related_items<L: Ledger>(alloc: Global, blank: Blank) -> Result<Outcome, NoMe
 fn relationships_to_many_and_to_one(rt: HostRuntime) -> Result<(), Fail> {
     let alloc = rt.alloc();
     let outcome = related_items::<Brand>(alloc, Blank::new(1))?;
-    let want = "{\"data\":{\"a\":[{\"id\":4,\"type\":\"item\",\"parts\":[],\"whole\":{\"id\":1}},{\"id\":2,\"type\":\"item\",\"parts\":[],\"whole\":{\"id\":3}}]}}";
+    let want =
+        "{\"data\":{\"a\":[{\"id\":4,\"type\":\"item\",\"parts\":[],\"whole\":{\"id\":1}},{\"id\":2,\"type\":\"item\",\"parts\":[],\"whole\":{\"id\":3}}]}}";
     assert_eq!(rt; outcome.text.as_slice(), want.as_bytes());
     assert!(rt; outcome.rows == 2);
     assert!(rt; matches!(outcome.last, Val::Null));
     Ok(())
 }
 
-fn by_whole(descending: bool, nulls_first: bool, limit: u8, offset: u8, cap: Option<u32>) -> Listing {
+fn by_whole(
+    descending: bool,
+    nulls_first: bool,
+    limit: u8,
+    offset: u8,
+    cap: Option<u32>,
+) -> Listing {
     Listing {
         descending,
         nulls_first,
@@ -426,12 +438,7 @@ fn streams_are<L: Ledger>(alloc: Global, blank: Blank) -> Result<bool, NoMemory>
             3,
             ("{\"data\":{\"a\":[{\"id\":2},{\"id\":1}]}}", 2, 1),
         ),
-        (
-            false,
-            None,
-            4,
-            ("{\"data\":{\"a\":[{\"id\":5}]}}", 1, 5),
-        ),
+        (false, None, 4, ("{\"data\":{\"a\":[{\"id\":5}]}}", 1, 5)),
         (
             false,
             Some(1),

@@ -1,11 +1,6 @@
-use Rattle.std.proofs.Common.{rules, ◌≡◌, ◌∙◌, unwrap_or, ap, Some, None, Option, ℕ, List, drop, take, sym}
-use Rattle.std.specs.Borrow.{Bor}
-use Rattle.data_model.specs.Rows.{Row, Rows}
-use Rattle.role_model.specs.declared.filter.Binding.{Binding}
-use Rattle.query_model.specs.Taken.{at_most, All, Next}
-use Rattle.query_model.specs.Plans.{number_bound, extent_of}
-use Rattle.nested_eval.specs.Seen.{seen}
-use Rattle.nested_eval.specs.Selections.{trimmed}
+use Rattle.std.proofs.Common.{rules, ◌≡◌, unwrap_or, Some, drop, take}
+use Rattle.query_model.specs.Taken.{at_most}
+use Rattle.query_model.specs.Plans.{number_bound}
 use Rattle.nested_eval.proofs.Cuts.{seen-listed, seen-next}
 use Rattle.nested_eval.proofs.cut.taken.Goals as goal
 

@@ -1,4 +1,4 @@
-use Rattle.std.proofs.Common.{rules, ap, is_lt}
+use Rattle.std.proofs.Common.{rules}
 use Rattle.std.proofs.lemmas.Fn.{always_returns_same}
 use Rattle.std.proofs.lemmas.List.Sorted.{ranks_by}
 use Rattle.query_model.specs.Taken.{rows_cmp}

@@ -1,5 +1,4 @@
-use Rattle.std.proofs.Common.{rules, ◌≡◌, ◌∙◌, ◌-◌, sym, ap, Some, slice_get, length}
-use Rattle.data_model.specs.Rows.{Row, cell}
+use Rattle.std.proofs.Common.{rules, ◌≡◌, ◌-◌, Some, slice_get, length}
 use Rattle.query_model.specs.Taken.{last_row}
 use Rattle.nested_eval.specs.Seen.{seen}
 use Rattle.nested_eval.proofs.Results.{last_seen}

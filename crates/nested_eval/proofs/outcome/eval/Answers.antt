@@ -14,5 +14,5 @@ outcome-requires g c = root_ready c.args.snapshot.now c.args.binding.now c.args.
 pub returns : goal.returns
 returns g c =
     let same = planned_from c.args.plan.now c.args.binding.now c.args.snapshot.now.tables c.as_slice.result.now (seen c.taken-rows.result.now) (seen c.as_slice-2.result.now)
-          c.as_slice.ensures c.taken-rows.ensures (ap seen c.as_slice-2.ensures.value ∙ c.in_ok-arranged.ensures) in
+    c.as_slice.ensures c.taken-rows.ensures (ap seen c.as_slice-2.ensures.value ∙ c.in_ok-arranged.ensures) in
     IfOk-weaker c.outcome.result _ _ (λ outcome ok. ok ∙ same) c.outcome.ensures

@@ -1,5 +1,4 @@
-use Rattle.std.proofs.Common.{rules, ◌≡◌, ◌++◌, ◌∙◌, sym, ap, Some, slice_get, drop, filter, IsTrue, length, subst}
-use Rattle.std.specs.List.{AllByRecursion}
+use Rattle.std.proofs.Common.{rules, ◌≡◌, ◌++◌, Some, slice_get, filter, IsTrue, length}
 use Rattle.data_model.specs.Rows.{Row}
 use Rattle.role_model.specs.Truth.{fits}
 use Rattle.query_model.specs.Taken.{joins}
