@@ -1,7 +1,16 @@
 -- The order of rows by entries is total.
 use Rattle.std.proofs.Common.{◌≡◌, ◌∙◌, ℕ, Bool, true, false, true≢false, List, [], ◌∷◌, refl, sym, ap}
-use Rattle.std.specs.Cmp.{IsTotalOrder}
-use Rattle.std.specs.Ordering.{nat_cmp, ordering_then, ordering_reverse, on, then_cmp}
+use denote.Param.Members.{Mut}
+use Rattle.std.specs.Borrow.{Bor}
+use Rattle.std.specs.Cmp.{IsTotalOrder, IsStrictWeakOrder}
+use Rattle.std.specs.Fn.{Called, ComparesAs}
+use Rattle.std.specs.List.Sorted.{IsSortedByClosure, IsStableByClosure}
+use Rattle.std.proofs.lemmas.Fn.{always_returns_same}
+use Rattle.std.proofs.lemmas.List.Sorted.{ranks_by}
+use Rattle.request_model.specs.Ordered.{ordered}
+use Rattle.gql_canon.proofs.StableRules.{sorted_by_placing}
+use Rattle.nested_eval.specs.Seen.{seen}
+use Rattle.std.specs.Ordering.{is_lt, nat_cmp, ordering_then, ordering_reverse, on, then_cmp}
 use Rattle.std.specs.declared.cmp.Ordering.{Ordering}
 use Rattle.std.specs.declared.cmp.Ordering.TheVariants.{Equal}
 use Rattle.std.proofs.lemmas.Cmp.{nat_cmp_total, on_total, then_total, back_total}
@@ -68,3 +77,13 @@ values_total first descending =
 pub rows_total : (orders : List Order) → IsTotalOrder (rows_cmp orders)
 rows_total [] = record { antisymm = λ x y. refl; trans = λ x y z a b. a; congr = λ x y z a. refl }
 rows_total (o ∷ os) = then_total (on_total (λ (row : Row). cell row o.column) (values_total o.nulls_first o.descending)) (rows_total os)
+
+-- what a stable sort leaves whose closure compares rows by the entries
+pub sorted_seen : {F : Type 0} {g : Mut F (Bor (Bor Row) × (Bor (Bor Row) × Unit {0})) Ordering} {f : F} (orders : List Order) (xs ys : List (Bor Row)) → IsSortedByClosure g f ys → IsStableByClosure g f xs ys
+    → ((a : Bor (Bor Row) × (Bor (Bor Row) × Unit {0})) (r : Ordering) (f' : F) → Called g f a r f' → (r ≡ rows_cmp orders a.0.now.now a.1.0.now.now) × (f' ≡ f)) → seen ys ≡ ordered (rows_cmp orders) (seen xs)
+sorted_seen {g = g} {f = f} orders xs ys sorted stable calls =
+    let total = rows_total orders in
+    let lt : Bor Row → Bor Row → Bool = λ a b. is_lt (rows_cmp orders a.now b.now) in
+    let weak : IsStrictWeakOrder lt = ranks_by total (λ row. row.now) in
+    let compares : ComparesAs g lt f = always_returns_same g (λ a r. is_lt r ≡ lt a.0.now a.1.0.now) f (λ a r f' k. (ap is_lt (calls a r f' k).0, (calls a r f' k).1)) in
+    sorted_by_placing (λ row. row.now) (rows_cmp orders) total xs ys (sorted lt weak compares) (stable lt weak compares)
