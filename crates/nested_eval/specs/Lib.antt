@@ -1,0 +1,4 @@
+pub mod Example
+pub mod Outcomes
+pub mod Seen
+pub mod Selections
