@@ -8,3 +8,5 @@ pub mod BareResults
 pub mod AgreedValues
 pub mod SharedResults
 pub mod PlansThere
+pub mod Positions
+pub mod RoleFilters
