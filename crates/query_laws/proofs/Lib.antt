@@ -10,3 +10,4 @@ pub mod SharedResults
 pub mod PlansThere
 pub mod Positions
 pub mod RoleFilters
+pub mod GoodMetadata
