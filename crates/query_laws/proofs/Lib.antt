@@ -11,3 +11,4 @@ pub mod PlansThere
 pub mod Positions
 pub mod RoleFilters
 pub mod GoodMetadata
+pub mod FittingFilters
