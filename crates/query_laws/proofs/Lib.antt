@@ -12,3 +12,4 @@ pub mod Positions
 pub mod RoleFilters
 pub mod GoodMetadata
 pub mod FittingFilters
+pub mod TypedValues
