@@ -13,3 +13,5 @@ pub mod RoleFilters
 pub mod GoodMetadata
 pub mod FittingFilters
 pub mod TypedValues
+pub mod PassedValues
+pub mod PassedConditions

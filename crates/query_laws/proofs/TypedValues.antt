@@ -40,7 +40,7 @@ use Rattle.query_laws.proofs.PlansThere.{neither}
 
 -- ---- values of kinds, as far as is asked
 
-abbrev is_int : Val → Bool
+abbrev pub is_int : Val → Bool
 is_int (val.Int z) = true
 is_int _ = false
 
@@ -49,16 +49,16 @@ is_of kind.Bool x = is_bool x
 is_of kind.Int x = is_int x
 is_of _ x = true
 
-none_some : {A : Type 0} (x : A) → ◌≡◌ {A = Option A} None (Some x) → ⊥
+pub none_some : {A : Type 0} (x : A) → ◌≡◌ {A = Option A} None (Some x) → ⊥
 none_some x h = cc
 
-some_none : {A : Type 0} (x : A) → ◌≡◌ {A = Option A} (Some x) None → ⊥
+pub some_none : {A : Type 0} (x : A) → ◌≡◌ {A = Option A} (Some x) None → ⊥
 some_none x h = cc
 
-same_some : {A : Type 0} (x y : A) → ◌≡◌ {A = Option A} (Some x) (Some y) → x ≡ y
+pub same_some : {A : Type 0} (x y : A) → ◌≡◌ {A = Option A} (Some x) (Some y) → x ≡ y
 same_some x y h = cc
 
-fitted_of : (k : Kind) (x y : Val) → fitted k x ≡ Some y → is_of k y ≡ true
+pub fitted_of : (k : Kind) (x y : Val) → fitted k x ≡ Some y → is_of k y ≡ true
 fitted_of kind.Bool (val.Bool b) y h = ap is_bool (sym (same_some (val.Bool b) y h))
 fitted_of kind.Bool val.Null y h = absurd (none_some y h)
 fitted_of kind.Bool (val.Int z) y h = absurd (none_some y h)
@@ -81,7 +81,7 @@ fitted_of kind.Uuid x y h = refl
 
 -- ---- variables
 
-abbrev typed : VarType → Slot → Bool
+abbrev pub typed : VarType → Slot → Bool
 typed t (One x) = is_null x || (not t.listed && is_of t.kind x)
 typed t (Many xs) = t.listed
 
@@ -145,11 +145,11 @@ variables_typed values (d ∷ ds) xs h = go (variable_of values d) (variables_of
 
 -- ---- what the walk lets pass
 
-passed_if : (b : Bool) (k : FaultKind) (name : Text) → refused_if b k name ≡ None → b ≡ false
+pub passed_if : (b : Bool) (k : FaultKind) (name : Text) → refused_if b k name ≡ None → b ≡ false
 passed_if true k name h = absurd (some_none (refusal k name) h)
 passed_if false k name h = refl
 
-clash : true ≡ false → ⊥
+pub clash : true ≡ false → ⊥
 clash h = cc
 
 kinds_same : (k l : Kind) → same_kind k l ≡ true → k ≡ l
