@@ -29,17 +29,17 @@ renamed_value : (p : GPair) (x : GValue) → pair_value (renamed p x) ≡ x
 renamed_value p x = ap (λ (z : GPair-F GValue GPair). z.value) (out-roll-GPair (record { name = pair_name p; value = x }))
 
 -- pairs that keep their names, with other values
-record Renews (f : GPair → GPair) (g : Text → GValue → GValue) : Type 0 where
-  name_is : (p : GPair) → pair_name (f p) ≡ pair_name p
-  value_is : (p : GPair) → pair_value (f p) ≡ g (pair_name p) (pair_value p)
+pub record Renews (f : GPair → GPair) (g : Text → GValue → GValue) : Type 0 where
+  pub name_is : (p : GPair) → pair_name (f p) ≡ pair_name p
+  pub value_is : (p : GPair) → pair_value (f p) ≡ g (pair_name p) (pair_value p)
 
 module _ (key : Text) (told : GValue → GValue) where
   -- the value of one name alone
-  abbrev inside : Bool → GValue → GValue
+  abbrev pub inside : Bool → GValue → GValue
   inside true x = told x
   inside false x = x
 
-  abbrev keyed : GPair → GPair
+  abbrev pub keyed : GPair → GPair
   keyed p = if bytes_eq (out-GPair p).name key then renamed p (told (out-GPair p).value) else p
 
   keyed_is : (p : GPair) → keyed p ≡ renamed p (inside (bytes_eq (pair_name p) key) (pair_value p))
@@ -49,7 +49,7 @@ module _ (key : Text) (told : GValue → GValue) where
       go true = refl
       go false = sym (roll-out-GPair p)
 
-  keyed_renews : Renews keyed (λ name. inside (bytes_eq name key))
+  pub keyed_renews : Renews keyed (λ name. inside (bytes_eq name key))
   keyed_renews = record {
     name_is = λ p. ap pair_name (keyed_is p) ∙ renamed_name p (inside (bytes_eq (pair_name p) key) (pair_value p));
     value_is = λ p. ap pair_value (keyed_is p) ∙ renamed_value p (inside (bytes_eq (pair_name p) key) (pair_value p));
@@ -125,7 +125,7 @@ found_same name e args =
 -- ---- a cursor without its initial value keeps its form
 
 module _ {B : Type 0} (P : GValue-F GValue GPair → B) (many : (xs ys : List GValue) → P (GValue-F.Many xs) ≡ P (GValue-F.Many ys)) (object : (ps qs : List GPair) → P (GValue-F.Object ps) ≡ P (GValue-F.Object qs)) where
-  form_kept : (x : GValue) → P (out-GValue (bare_cursor x)) ≡ P (out-GValue x)
+  pub form_kept : (x : GValue) → P (out-GValue (bare_cursor x)) ≡ P (out-GValue x)
   form_kept x = go (out-GValue x) refl
     where
       go : (f : GValue-F GValue GPair) → out-GValue x ≡ f → P (out-GValue (bare_cursor_by (bare_object_by x f) f)) ≡ P f

@@ -134,7 +134,7 @@ bare_names_step f = flat_map pair_names f.args ++ concatenated f.fields
 abbrev pub bare_names : FlatField → List Text
 bare_names = fold-FlatField (List Text) bare_names_step
 
-abbrev all_names : FlatField → List Text
+abbrev pub all_names : FlatField → List Text
 all_names = fold-FlatField (List Text) field_names_step
 
 abbrev IsAlike : FlatField → Type 0

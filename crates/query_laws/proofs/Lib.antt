@@ -15,3 +15,4 @@ pub mod FittingFilters
 pub mod TypedValues
 pub mod PassedValues
 pub mod PassedConditions
+pub mod FittingSelects

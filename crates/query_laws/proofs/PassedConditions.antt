@@ -291,7 +291,7 @@ module _ (w : View) (names : List Text) (slots : List SessionSlot) (b : Binding)
       (λ f y is. rolled_fits f (subst EachFits is (each_part y)))
       (λ f y is. pair_fits (roll-GPair f) (subst (λ z. IfListed z.value) (sym (out-roll-GPair f)) (subst (λ z. IfListed z.value) is y.value.1)))
 
-  always_fits : (table : ℕ) → Fits table always
+  pub always_fits : (table : ℕ) → Fits table always
   always_fits table = fit-And w.metadata.catalog b table [] tt
 
   pub where_good : (table : ℕ) (x : GValue) → AllListed (value_names x) → where_fault vars w table x ≡ None → Fits table (where_filter w reader table (Some x))
