@@ -207,7 +207,7 @@ module _ (w : View) (names : List Text) (slots : List SessionSlot) (b : Binding)
         go None e k = tt
         go (Some f) e k = (fits_slotted w names slots b bound table f (good.filters w.role table f e) k, tt)
 
-    abbrev Permitted : ℕ → Type 0
+    abbrev pub Permitted : ℕ → Type 0
     Permitted table = AllByRecursion (λ (s : SessionSlot). nat_lt 0 (length slots) ≡ true) (table_slots w table)
 
     abbrev Fits : ℕ → Filter → Type 0

@@ -16,3 +16,4 @@ pub mod TypedValues
 pub mod PassedValues
 pub mod PassedConditions
 pub mod FittingSelects
+pub mod FittingPlans
