@@ -1,11 +1,9 @@
 -- The role's filters fit: their columns are there, and the values of their session variables are bound.
-use Rattle.std.proofs.Common.{◌≡◌, ℕ, Bool, true, false, ◌&&◌, List, [], ◌∷◌, ◌++◌, map, flat_map, position, nat_lt, length, unwrap_or, Option, Some, None, refl, ap, sym, ◌∙◌, subst}
+use Rattle.std.proofs.Common.{◌≡◌, ℕ, Bool, true, false, List, [], ◌∷◌, map, flat_map, position, nat_lt, length, unwrap_or, refl, ap, sym, ◌∙◌, subst}
 use Rattle.std.proofs.lemmas.Bool.{and_from, and_parts}
-use Rattle.std.proofs.lemmas.List.Folds.{list_all-map}
 use Rattle.std.specs.List.{list_all, AllByRecursion}
 use Rattle.std.specs.Ordering.{is_eq}
 use Rattle.data_model.specs.declared.catalog.Catalog.{Catalog}
-use Rattle.scalar_val.specs.declared.val.Val.{Val}
 use Rattle.scalar_val.specs.declared.val.Val.TheVariants as val
 use Rattle.role_model.specs.declared.filter.Binding.{Binding}
 use Rattle.role_model.specs.declared.filter.Filter.{Filter}
@@ -25,11 +23,11 @@ use Rattle.request_model.specs.Strings.{Text}
 use Rattle.request_model.proofs.ReadArguments.{firsts}
 use Rattle.query_model.specs.Names.{kind_of}
 use Rattle.query_model.specs.Queries.{SessionSlot, slot_cmp, session_name, slots_of, filter_slots_step, filter_slots}
-use Rattle.query_model.specs.Results.{Change, items_changed, changed_step, changed}
+use Rattle.query_model.specs.Results.{items_changed, changed_step, changed}
 use Rattle.query_model.specs.Plans.{width, has_column, columns_fit_step, columns_fit, values_fit_step, values_fit, slotting}
-use Rattle.query_laws.proofs.Positions.{some_place_within, all_from}
+use Rattle.query_laws.proofs.Positions.{some_place_within}
 use Rattle.query_laws.proofs.AgreedValues.{front_holds, back_holds}
-use Rattle.query_laws.proofs.RoleFilters.{is_constant, is_own, are_constant, is_boolean, is_wanted, good_step, is_good}
+use Rattle.query_laws.proofs.RoleFilters.{is_constant, is_own, are_constant, is_wanted, good_step, is_good}
 
 module _ (catalog : Catalog) (b : Binding) (table : ℕ) where
   -- its columns are of the table, and its values are bound

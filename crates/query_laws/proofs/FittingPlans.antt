@@ -1,27 +1,20 @@
 -- The plan of an admitted query fits, and its binding fits it.
-use Rattle.std.proofs.Common.{◌≡◌, ℕ, Bool, true, false, not, ◌&&◌, ◌||◌, if◌then◌else◌, List, [], ◌∷◌, ◌++◌, map, find, flat_map, length, nat_lt, position, slice_get, is_some, is_none, unwrap_or, Option, Some, None, option_map, option_and_then, refl, ap, sym, ◌∙◌, subst}
-use Rattle.std.proofs.lemmas.Bool.{and_from, and_parts}
-use Rattle.std.proofs.lemmas.Slice.Eq.{bytes_eq-Decides}
+use Rattle.std.proofs.Common.{◌≡◌, ℕ, Bool, true, false, if◌then◌else◌, List, [], ◌∷◌, ◌++◌, map, find, flat_map, length, nat_lt, position, slice_get, Option, Some, None, option_and_then, refl, ap, sym, ◌∙◌, subst}
 use Rattle.std.specs.Prelude.{codes}
 use Rattle.std.specs.Str.{bytes_eq}
-use Rattle.std.specs.List.{list_all, list_any, AllByRecursion}
-use Rattle.scalar_val.specs.declared.val.Kind.{Kind}
-use Rattle.scalar_val.specs.declared.val.Kind.TheVariants as kind
+use Rattle.std.specs.List.{AllByRecursion}
 use Rattle.data_model.specs.declared.catalog.Catalog.{Catalog}
 use Rattle.data_model.specs.declared.catalog.TableDef.{TableDef}
 use Rattle.role_model.specs.declared.filter.Binding.{Binding}
-use Rattle.role_model.specs.declared.filter.Filter.{Filter}
 use Rattle.role_model.specs.declared.metadata.LinkDef.{LinkDef}
 use Rattle.role_model.specs.declared.plan.Field.{Field}
-use Rattle.role_model.specs.declared.plan.Select.{Select}
-use Rattle.role_model.specs.Roles.{View, only_if, table_at, sees_table, table_seen, links_at, link_seen, key_seen, column_seen}
+use Rattle.role_model.specs.Roles.{View, only_if, sees_table, table_seen, links_at, link_seen, key_seen, column_seen}
 use Rattle.request_model.specs.declared.document.GValue.{GValue}
-use Rattle.request_model.specs.declared.document.GPair.{GPair}
 use Rattle.request_model.specs.declared.flat.Word.{Word}
 use Rattle.request_model.specs.declared.flat.Word.TheVariants as word
 use Rattle.request_model.specs.declared.flat.FlatField.{FlatField}
 use Rattle.request_model.specs.declared.flat.FlatField.TheOpen.{FlatField-F}
-use Rattle.request_model.specs.declared.flat.FlatField.TheViews.{out-FlatField, roll-FlatField}
+use Rattle.request_model.specs.declared.flat.FlatField.TheViews.{roll-FlatField}
 use Rattle.request_model.specs.declared.flat.FlatField.TheFolds.{fold-FlatField, fold-roll-FlatField, ind-FlatField}
 use Rattle.request_model.specs.Strings.{Text}
 use Rattle.request_model.specs.Selection.{concatenated}
@@ -29,19 +22,18 @@ use Rattle.request_model.specs.SelectionLaws.{bare_argument}
 use Rattle.request_model.proofs.ReadArguments.{firsts}
 use Rattle.query_model.specs.declared.fault.FaultKind.TheVariants as fault
 use Rattle.query_model.specs.declared.fault.QueryFault.{QueryFault}
-use Rattle.query_model.specs.Names.{Root, RowsOf, RowOf, StreamOf, NoRoot, Meant, Typename, AColumn, ALink, Unseen, link_or_none, column_or, meant, table_called, table_by_key, table_streamed, root_or, root_meant, pair_name, pair_value, argument}
+use Rattle.query_model.specs.Names.{Root, RowsOf, RowOf, StreamOf, NoRoot, Meant, Typename, AColumn, ALink, Unseen, link_or_none, column_or, meant, table_called, table_by_key, table_streamed, root_or, root_meant, pair_value}
 use Rattle.query_model.specs.Variables.{Variable}
-use Rattle.query_model.specs.Queries.{SessionSlot, value_names, field_names_step, tables_by, tables_step, tables_below, root_tables}
-use Rattle.query_model.specs.Refusals.{refusal, refused, refused_if, or_then, first_of}
-use Rattle.query_model.specs.Walk.{arguments_fault, missing_fault, conditions_fault, object_fault, list_arguments, no_arguments, link_arguments, meant_fault, field_fault_step, field_fault}
-use Rattle.query_model.specs.Plans.{has_column, width, list_select, one_select, link_select, meant_field, plan_step, plan_field}
+use Rattle.query_model.specs.Queries.{SessionSlot, value_names, field_names_step, tables_by, tables_step, tables_below}
+use Rattle.query_model.specs.Refusals.{refusal, first_of}
+use Rattle.query_model.specs.Walk.{arguments_fault, missing_fault, object_fault, list_arguments, no_arguments, link_arguments, meant_fault, field_fault_step, field_fault}
+use Rattle.query_model.specs.Plans.{list_select, one_select, meant_field, plan_step, plan_field}
 use Rattle.query_laws.proofs.BareNames.{all_names}
 use Rattle.query_laws.proofs.PlansThere.{neither}
-use Rattle.query_laws.proofs.Positions.{PlacedAt, placed_at, each_found}
+use Rattle.query_laws.proofs.Positions.{placed_at, each_found}
 use Rattle.query_laws.proofs.AgreedValues.{front_holds, back_holds}
 use Rattle.query_laws.proofs.GoodMetadata.{GoodMetadata, GoodLink}
-use Rattle.query_laws.proofs.FittingFilters.{Fit}
-use Rattle.query_laws.proofs.TypedValues.{Typed, clash, some_none, none_some, same_some, passed_if}
+use Rattle.query_laws.proofs.TypedValues.{Typed, some_none, none_some, same_some}
 use Rattle.query_laws.proofs.PassedConditions.{seen_within, AllListed}
 use Rattle.query_laws.proofs.FittingSelects.{SelectGood, FieldGood, typename_good, column_field_good, link_field_good, Permitted, list_good, one_good}
 
@@ -123,9 +115,10 @@ module _ (w : View) (names : List Text) (slots : List SessionSlot) (b : Binding)
   inner_good table [] each h l r = tt
   inner_good table (x ∷ xs) each h l r =
       let parts = neither (judging x table) (first_of (map (λ (g : ℕ → Option QueryFault). g table) (map judging xs))) h in
-      let later = flat_map (λ (g : ℕ → List ℕ). g table) (map reading xs) in
-      (each.0 table parts.0 (front_holds _ (all_names x) (concatenated (map all_names xs)) l) (front_holds _ (reading x table) later r),
-      inner_good table xs each.1 parts.1 (back_holds _ (all_names x) (concatenated (map all_names xs)) l) (back_holds _ (reading x table) later r))
+      let later = flat_map (λ (g : ℕ → List ℕ). g table) (map reading xs) in (
+        each.0 table parts.0 (front_holds _ (all_names x) (concatenated (map all_names xs)) l) (front_holds _ (reading x table) later r),
+        inner_good table xs each.1 parts.1 (back_holds _ (all_names x) (concatenated (map all_names xs)) l) (back_holds _ (reading x table) later r),
+      )
 
   module _ (f : FlatField-F FlatField) where
     abbrev judged : FlatField-F (ℕ → Option QueryFault)
@@ -167,9 +160,10 @@ module _ (w : View) (names : List Text) (slots : List SessionSlot) (b : Binding)
       MayRead (flat_map (tables_below w table) xs) → AllByRecursion (FieldGood catalog b table) (map (plan_field w names slots table) xs)
   fields_good table [] h l r = tt
   fields_good table (x ∷ xs) h l r =
-      let parts = neither (judging x table) (first_of (map (λ (g : ℕ → Option QueryFault). g table) (map judging xs))) h in
-      (field_ready x table parts.0 (front_holds _ (all_names x) (concatenated (map all_names xs)) l) (front_holds _ (tables_below w table x) (flat_map (tables_below w table) xs) r),
-      fields_good table xs parts.1 (back_holds _ (all_names x) (concatenated (map all_names xs)) l) (back_holds _ (tables_below w table x) (flat_map (tables_below w table) xs) r))
+      let parts = neither (judging x table) (first_of (map (λ (g : ℕ → Option QueryFault). g table) (map judging xs))) h in (
+        field_ready x table parts.0 (front_holds _ (all_names x) (concatenated (map all_names xs)) l) (front_holds _ (tables_below w table x) (flat_map (tables_below w table) xs) r),
+        fields_good table xs parts.1 (back_holds _ (all_names x) (concatenated (map all_names xs)) l) (back_holds _ (tables_below w table x) (flat_map (tables_below w table) xs) r),
+      )
 
 -- ---- the root's table is there
 

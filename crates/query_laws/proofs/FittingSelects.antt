@@ -1,52 +1,43 @@
 -- Selections fit where their parts do, and the arguments that the walk lets pass give such parts.
-use Rattle.std.proofs.Common.{◌≡◌, ℕ, Bool, true, false, not, ◌&&◌, ◌||◌, ◌==◌, if◌then◌else◌, List, [], ◌∷◌, ◌++◌, map, find, flat_map, filter_map, length, nat_lt, position, is_some, is_none, unwrap_or, Option, Some, None, option_map, option_and_then, refl, ap, sym, ◌∙◌, subst}
-use Rattle.std.proofs.lemmas.Bool.{and_from, and_parts}
+use Rattle.std.proofs.Common.{◌≡◌, ℕ, Bool, true, false, ◌&&◌, ◌==◌, List, [], ◌∷◌, map, find, flat_map, filter_map, length, nat_lt, Option, Some, None, option_map, option_and_then, refl, ap, sym, ◌∙◌, subst}
+use Rattle.std.proofs.lemmas.Bool.{and_from}
 use Rattle.std.proofs.lemmas.Slice.Eq.{bytes_eq-Decides}
 use Rattle.std.specs.Prelude.{codes}
 use Rattle.std.specs.Str.{bytes_eq}
-use Rattle.std.specs.List.{list_all, list_any, AllByRecursion}
-use Rattle.scalar_val.specs.declared.val.Kind.{Kind}
-use Rattle.scalar_val.specs.declared.val.Kind.TheVariants as kind
+use Rattle.std.specs.List.{list_all, AllByRecursion}
 use Rattle.data_model.specs.declared.catalog.Catalog.{Catalog}
 use Rattle.role_model.specs.declared.filter.Binding.{Binding}
 use Rattle.role_model.specs.declared.filter.Filter.{Filter}
-use Rattle.role_model.specs.declared.filter.Filter.TheVariants as filter
-use Rattle.role_model.specs.declared.filter.Op.TheVariants.{Eq}
-use Rattle.role_model.specs.declared.filter.Operand.{Operand}
 use Rattle.role_model.specs.declared.plan.Order.{Order}
-use Rattle.role_model.specs.declared.plan.Shape.{Shape}
-use Rattle.role_model.specs.declared.plan.Shape.TheVariants as shape
 use Rattle.role_model.specs.declared.plan.Field.{Field}
 use Rattle.role_model.specs.declared.plan.Field.TheVariants as field
 use Rattle.role_model.specs.declared.plan.Field.TheVariants.{rolls-Column, rolls-Typename, rolls-Link}
-use Rattle.role_model.specs.declared.plan.Field.TheOpen.{Field-F, Select-F}
+use Rattle.role_model.specs.declared.plan.Field.TheOpen.{Select-F}
 use Rattle.role_model.specs.declared.plan.Field.TheViews.{roll-Select}
-use Rattle.role_model.specs.declared.plan.Field.TheFolds.{fold-Field, fold-Select, map-Select, fold-roll-Field, fold-roll-Select}
+use Rattle.role_model.specs.declared.plan.Field.TheFolds.{fold-Field, fold-roll-Field, fold-roll-Select}
 use Rattle.role_model.specs.declared.plan.Select.{Select}
-use Rattle.role_model.specs.Roles.{View, filter_seen, cap_seen, column_seen}
-use Rattle.role_model.specs.Truth.{itself, operand_fits}
+use Rattle.role_model.specs.Roles.{View, filter_seen, column_seen}
+use Rattle.role_model.specs.Truth.{itself}
 use Rattle.request_model.specs.declared.document.GValue.{GValue}
 use Rattle.request_model.specs.declared.document.GPair.{GPair}
 use Rattle.request_model.specs.Strings.{Text}
 use Rattle.request_model.specs.SelectionLaws.{bare_cursor, bare_argument}
 use Rattle.query_model.specs.declared.fault.FaultKind.TheVariants as fault
 use Rattle.query_model.specs.declared.fault.QueryFault.{QueryFault}
-use Rattle.query_model.specs.Names.{pair_name, pair_value, argument, variable_by, variable_in, pairs_in, items_in, enum_in, key_columns, column_name, kind_of, initial_column, descends}
+use Rattle.query_model.specs.Names.{pair_name, pair_value, argument, variable_by, variable_in, pairs_in, items_in, enum_in}
 use Rattle.query_model.specs.Variables.{Variable}
-use Rattle.query_model.specs.Conditions.{order_named, order_entry, order_in, orders_in, where_filter, always}
+use Rattle.query_model.specs.Conditions.{order_named, order_entry, order_in, orders_in, where_filter}
 use Rattle.query_model.specs.Queries.{SessionSlot, value_names, slots_by, table_slots}
-use Rattle.query_model.specs.Refusals.{refusal, refused, refused_if, or_then, first_of}
-use Rattle.query_model.specs.Walk.{Known, known_fault, judged_by, arguments_fault, list_arguments, stream_arguments, key_arguments, key_names, key_kind, single_fault, where_fault, orders_fault, count_fault, batch_fault, cursor_fault}
-use Rattle.query_model.specs.Plans.{width, has_column, columns_fit, shape_fits, FitsAt, fits_field_step, fits_select_step, select_fits, count_fits, batch_fits, is_number, bound_field_step, bound_select_step, is_bound, values_fit, operand_by, operand_of, operands, permission, permission_by, count_operand, list_select, one_select, column_condition, key_condition, batch_operand, stream_select}
+use Rattle.query_model.specs.Refusals.{refusal}
+use Rattle.query_model.specs.Walk.{Known, known_fault, judged_by, arguments_fault, list_arguments, where_fault, count_fault}
+use Rattle.query_model.specs.Plans.{has_column, columns_fit, shape_fits, FitsAt, fits_field_step, fits_select_step, select_fits, count_fits, batch_fits, bound_field_step, bound_select_step, is_bound, values_fit, operands, permission, permission_by, count_operand, list_select, one_select}
 use Rattle.query_laws.proofs.BareArguments.{keyed_renews, inside, form_kept}
-use Rattle.query_laws.proofs.PlansThere.{neither}
 use Rattle.query_laws.proofs.Positions.{each_found, each_filtered, each_joined_all, all_from}
 use Rattle.query_laws.proofs.AgreedValues.{front_holds, back_holds}
 use Rattle.query_laws.proofs.GoodMetadata.{GoodMetadata}
-use Rattle.query_laws.proofs.RoleFilters.{is_good}
-use Rattle.query_laws.proofs.FittingFilters.{Fit, fit-And, fit-Or, fit-Cmp, fits_slotted}
+use Rattle.query_laws.proofs.FittingFilters.{Fit, fit-And, fits_slotted}
 use Rattle.query_laws.proofs.TypedValues.{Typed, clash, some_none, none_some, same_some}
-use Rattle.query_laws.proofs.PassedValues.{ListedIn, Passed, single_good, count_good, batch_good}
+use Rattle.query_laws.proofs.PassedValues.{ListedIn, count_good}
 use Rattle.query_laws.proofs.PassedConditions.{seen_within, each_judged, AllListed, variable_listed, where_good, always_fits}
 
 module _ (catalog : Catalog) (b : Binding) where
@@ -79,8 +70,8 @@ module _ (catalog : Catalog) (b : Binding) where
   pub link_field_good : (table : ℕ) (key : Text) (from to : List ℕ) (s : Select) → (length from == length to) ≡ true → list_all (has_column catalog table) from ≡ true → SelectGood false to s → FieldGood table (field.Link key from to s)
   link_field_good table key from to s h k g = record {
     fits =
-      ap (λ (f : Field). field_fits f table) (sym (rolls-Link key from to s)) ∙ ap (λ (g : ℕ → Bool). g table) (fold-roll-Field (ℕ → Bool) (FitsAt catalog) (fits_field_step catalog) (fits_select_step catalog) _)
-      ∙ and_from ((length from == length to) && list_all (has_column catalog table) from) (select_fits catalog s false to) (and_from (length from == length to) (list_all (has_column catalog table) from) h k) g.fits;
+        ap (λ (f : Field). field_fits f table) (sym (rolls-Link key from to s)) ∙ ap (λ (g : ℕ → Bool). g table) (fold-roll-Field (ℕ → Bool) (FitsAt catalog) (fits_field_step catalog) (fits_select_step catalog) _)
+        ∙ and_from ((length from == length to) && list_all (has_column catalog table) from) (select_fits catalog s false to) (and_from (length from == length to) (list_all (has_column catalog table) from) h k) g.fits;
     bound = ap field_bound (sym (rolls-Link key from to s)) ∙ fold-roll-Field Bool Bool (bound_field_step b) (bound_select_step b) _ ∙ g.bound;
   }
 
@@ -97,14 +88,14 @@ module _ (catalog : Catalog) (b : Binding) where
       count_fits b s.limit ≡ true → count_fits b s.offset ≡ true → batch_fits b s.shape ≡ true → SelectGood is_root to (roll-Select s)
   select_good is_root to s table joined shaped fit order fields limit offset batch = record {
     fits =
-      ap (λ (g : FitsAt catalog). g is_root to) (fold-roll-Select (ℕ → Bool) (FitsAt catalog) (fits_field_step catalog) (fits_select_step catalog) s)
-      ∙ and_from _ (list_all (λ (f : ℕ → Bool). f s.table) (map field_fits s.fields))
+        ap (λ (g : FitsAt catalog). g is_root to) (fold-roll-Select (ℕ → Bool) (FitsAt catalog) (fits_field_step catalog) (fits_select_step catalog) s)
+        ∙ and_from _ (list_all (λ (f : ℕ → Bool). f s.table) (map field_fits s.fields))
         (and_from _ (list_all (λ (o : Order). has_column catalog s.table o.column) s.order)
         (and_from _ (columns_fit catalog s.table s.filter) (and_from _ (shape_fits catalog is_root s.table s.shape) (and_from (nat_lt s.table (length catalog.tables)) (list_all (has_column catalog s.table) to) table joined) shaped) fit.columns) order)
         (each_field_fits s.table s.fields fields);
     bound =
-      fold-roll-Select Bool Bool (bound_field_step b) (bound_select_step b) s
-      ∙ and_from _ (list_all itself (map field_bound s.fields))
+        fold-roll-Select Bool Bool (bound_field_step b) (bound_select_step b) s
+        ∙ and_from _ (list_all itself (map field_bound s.fields))
         (and_from _ (batch_fits b s.shape) (and_from _ (count_fits b s.offset) (and_from (values_fit b s.filter) (count_fits b s.limit) fit.values limit) offset) batch) (each_field_bound s.table s.fields fields);
   }
 
@@ -213,7 +204,7 @@ module _ (w : View) (names : List Text) (slots : List SessionSlot) (b : Binding)
     abbrev Fits : ℕ → Filter → Type 0
     Fits table f = Fit w.metadata.catalog b table f
 
-    where_of : (known : Known vars w) (table : ℕ) (args : List GPair) → known (codes "where") ≡ Some (where_fault vars w table) → arguments_fault vars w known args ≡ None → Told (flat_map bare_pair_names args) →
+    pub where_of : (known : Known vars w) (table : ℕ) (args : List GPair) → known (codes "where") ≡ Some (where_fault vars w table) → arguments_fault vars w known args ≡ None → Told (flat_map bare_pair_names args) →
         (o : Option GValue) → argument (codes "where") args ≡ o → Fits table (where_filter w (operands w names slots) table o)
     where_of known table args k h l None e = always_fits w names slots b vars all table
     where_of known table args k h l (Some x) e =
@@ -242,4 +233,3 @@ module _ (w : View) (names : List Text) (slots : List SessionSlot) (b : Binding)
     one_good is_root to table conditions fields there joined permitted fit goods =
         select_good w.metadata.catalog b is_root to _ there joined refl
         (fit-And w.metadata.catalog b table _ (each_joined_all (Fits table) conditions (permission w names slots table) fit (permission_good table permitted))) refl goods refl refl refl
-

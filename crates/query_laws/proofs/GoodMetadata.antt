@@ -1,5 +1,5 @@
 -- Metadata that a text says has its relationships, keys and filters within its tables.
-use Rattle.std.proofs.Common.{◌≡◌, ℕ, suc, ◌+◌, Bool, true, false, not, ◌&&◌, ◌||◌, ◌==◌, if◌then◌else◌, List, [], ◌∷◌, ◌++◌, map, find, filter_map, position, nat_lt, length, slice_get, is_none, unwrap_or, Option, Some, None, option_map, option_and_then, Result, Ok, Err, refl, ap, ap₂, sym, ◌∙◌, subst, arith, append_assoc}
+use Rattle.std.proofs.Common.{◌≡◌, ℕ, suc, ◌+◌, Bool, true, false, not, ◌||◌, ◌==◌, if◌then◌else◌, List, [], ◌∷◌, ◌++◌, map, find, nat_lt, length, slice_get, is_none, unwrap_or, Option, Some, None, option_map, option_and_then, Result, Ok, Err, refl, ap, sym, ◌∙◌, subst, arith, append_assoc}
 use Rattle.std.proofs.lemmas.Bool.{eqb-true, and_parts}
 use Rattle.std.proofs.lemmas.Bool.Decides.{nat_tests}
 use Rattle.std.proofs.lemmas.Option.{slice_get-map}
@@ -8,7 +8,6 @@ use Rattle.std.specs.Str.{bytes_eq}
 use Rattle.std.specs.List.{list_all, list_any, enumerate_from, AllByRecursion}
 use Rattle.std.specs.Cmp.Lexicographic.{pointwise}
 use Rattle.toml.specs.Data.{Members}
-use Rattle.scalar_val.specs.declared.val.Kind.{Kind}
 use Rattle.data_model.specs.declared.catalog.Column.{Column}
 use Rattle.data_model.specs.declared.catalog.TableDef.{TableDef}
 use Rattle.data_model.specs.declared.catalog.Catalog.{Catalog}
@@ -26,11 +25,11 @@ use Rattle.role_model.specs.declared.metadata.MetaFault.TheVariants.{TooLong, To
 use Rattle.role_model.specs.JsonFilters.{filter_of, column_number}
 use Rattle.role_model.specs.MetadataForm.{document_of}
 use Rattle.role_model.specs.Texts.{Text}
-use Rattle.role_model.specs.Roles.{View, role_of, grants_by, grant_on, links_at, filter_seen, is_admin}
-use Rattle.role_model.specs.MetadataFaults.{wrong_version, too_many, bad_name, duplicate, bad_role, bad_filter, links_of, table_number, columns_by, columns_of, has_column, kind_in, same_kind, json_of, no_table, lacks_a_column, link_lacks_a_column, table_lacks_a_column, no_column, links_other_kinds, has_a_bad_kind, bad_kind, first_of, fault_of, numbers_of, table_def, link_def, link_defs, permission_for, session_names, grant_of, grant_for, role_def, role_names, meaning_of, judged_by, formed_by, parsed_by, toml_of, metadata_of}
+use Rattle.role_model.specs.Roles.{role_of, grants_by, grant_on, links_at, filter_seen, is_admin}
+use Rattle.role_model.specs.MetadataFaults.{wrong_version, too_many, bad_name, duplicate, bad_role, bad_filter, links_of, table_number, columns_by, columns_of, has_column, kind_in, same_kind, json_of, no_table, lacks_a_column, link_lacks_a_column, table_lacks_a_column, no_column, links_other_kinds, has_a_bad_kind, bad_kind, first_of, fault_of, numbers_of, table_def, link_def, link_defs, permission_for, session_names, grant_of, grant_for, role_def, role_names, meaning_of, judged_by, formed_by, parsed_by, toml_of}
 use Rattle.query_model.specs.Laws.{IsMetadata}
 use Rattle.query_model.specs.Plans.{width}
-use Rattle.query_laws.proofs.Positions.{PlacedAt, placed_at, place_within, or_parts, none_of, each_at, each_found, each_mapped, each_filtered, each_joined_all, all_from}
+use Rattle.query_laws.proofs.Positions.{placed_at, place_within, or_parts, none_of, each_at, each_found, each_mapped, each_filtered, each_joined_all, all_from}
 use Rattle.query_laws.proofs.RoleFilters.{is_good, filter_good}
 
 -- ---- metadata without a fault
@@ -167,8 +166,8 @@ module _ (d : Document) (clean : fault_of d ≡ None) where
               pairs = eqb_same _ _ (length-map l.from _ ∙ pairs_of_link l alike ∙ sym (length-map l.to _));
               from = ap (λ n. list_all (λ c. nat_lt c n) (numbers_of e.columns l.from)) (width_at i e at) ∙ numbers_within e.columns l.from lacking.0;
               to =
-                ap (λ n. list_all (λ c. nat_lt c n) (numbers_of (columns_of d.tables l.table) l.to)) (ap (width catalog) is_j ∙ width_at j at_j.item at_j.there ∙ ap length (sym columns))
-                ∙ numbers_within (columns_of d.tables l.table) l.to lacking.1;
+                  ap (λ n. list_all (λ c. nat_lt c n) (numbers_of (columns_of d.tables l.table) l.to)) (ap (width catalog) is_j ∙ width_at j at_j.item at_j.there ∙ ap length (sym columns))
+                  ∙ numbers_within (columns_of d.tables l.table) l.to lacking.1;
             }
 
     links_good : AllByRecursion (GoodLink catalog i) (link_defs d.tables e)
@@ -197,9 +196,10 @@ module _ (d : Document) (clean : fault_of d ≡ None) where
 
   numbered : (front back : List TableEntry) → d.tables ≡ front ++ back → AllByRecursion (λ (p : ℕ × TableEntry). slice_get d.tables p.0 ≡ Some p.1) (enumerate_from (length front) back)
   numbered front [] h = tt
-  numbered front (e ∷ back) h =
-      (ap (λ ts. slice_get ts (length front)) h ∙ middle front e back,
-      subst (λ n. AllByRecursion (λ (p : ℕ × TableEntry). slice_get d.tables p.0 ≡ Some p.1) (enumerate_from n back)) (grown front e) (numbered (front ++ e ∷ []) back (h ∙ sym (append_assoc front (e ∷ []) back))))
+  numbered front (e ∷ back) h = (
+    ap (λ ts. slice_get ts (length front)) h ∙ middle front e back,
+    subst (λ n. AllByRecursion (λ (p : ℕ × TableEntry). slice_get d.tables p.0 ≡ Some p.1) (enumerate_from n back)) (grown front e) (numbered (front ++ e ∷ []) back (h ∙ sym (append_assoc front (e ∷ []) back))),
+  )
     where
       middle : (xs : List TableEntry) (x : TableEntry) (ys : List TableEntry) → slice_get (xs ++ x ∷ ys) (length xs) ≡ Some x
       middle [] x ys = refl

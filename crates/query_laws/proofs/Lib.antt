@@ -17,3 +17,4 @@ pub mod PassedValues
 pub mod PassedConditions
 pub mod FittingSelects
 pub mod FittingPlans
+pub mod PlansThatFit

@@ -1,47 +1,44 @@
 -- Conditions that the walk lets pass fit.
-use Rattle.std.proofs.Common.{◌≡◌, ℕ, Bool, true, false, ◌&&◌, ◌||◌, if◌then◌else◌, List, [], ◌∷◌, ◌++◌, map, flat_map, length, nat_lt, slice_get, position, is_some, unwrap_or, Option, Some, None, option_map, option_and_then, refl, ap, sym, ◌∙◌, subst}
+use Rattle.std.proofs.Common.{◌≡◌, ℕ, Bool, true, false, ◌||◌, if◌then◌else◌, List, [], ◌∷◌, map, length, nat_lt, is_some, unwrap_or, Option, Some, None, option_map, option_and_then, refl, ap, sym, ◌∙◌, subst}
 use Rattle.std.specs.Prelude.{codes}
 use Rattle.std.specs.Str.{bytes_eq}
 use Rattle.std.specs.List.{list_any, AllByRecursion}
 use Rattle.scalar_val.specs.declared.val.Kind.{Kind}
 use Rattle.scalar_val.specs.declared.val.Kind.TheVariants as kind
-use Rattle.data_model.specs.declared.catalog.Catalog.{Catalog}
 use Rattle.data_model.specs.declared.catalog.Column.{Column}
 use Rattle.data_model.specs.declared.catalog.TableDef.{TableDef}
 use Rattle.role_model.specs.declared.filter.Binding.{Binding}
 use Rattle.role_model.specs.declared.filter.Filter.{Filter}
 use Rattle.role_model.specs.declared.filter.Filter.TheVariants as filter
 use Rattle.role_model.specs.declared.filter.Op.{Op}
-use Rattle.role_model.specs.declared.filter.Operand.{Operand}
 use Rattle.role_model.specs.JsonFilters.{op_named, column_number}
 use Rattle.role_model.specs.Roles.{View, only_if, table_at, sees_column, column_seen}
 use Rattle.request_model.specs.declared.document.GValue.{GValue}
-use Rattle.request_model.specs.declared.document.GValue.TheOpen.{GValue-F, GPair-F}
+use Rattle.request_model.specs.declared.document.GValue.TheOpen.{GValue-F}
 use Rattle.request_model.specs.declared.document.GValue.TheViews.{out-GValue, roll-GValue, out-roll-GValue, out-GPair, roll-GPair, out-roll-GPair}
 use Rattle.request_model.specs.declared.document.GValue.TheFolds.{map-GValue, fold-GPair, fold_out-GValue, ind-GValue}
 use Rattle.request_model.specs.declared.document.GPair.{GPair}
 use Rattle.request_model.specs.Strings.{Text}
 use Rattle.request_model.specs.Selection.{concatenated}
 use Rattle.request_model.proofs.ReadArguments.{firsts}
-use Rattle.query_model.specs.declared.fault.FaultKind.{FaultKind}
 use Rattle.query_model.specs.declared.fault.FaultKind.TheVariants as fault
 use Rattle.query_model.specs.declared.fault.QueryFault.{QueryFault}
 use Rattle.query_model.specs.Names.{kind_of, pair_name, pair_value, variable_by, variable_in, pairs_by, pairs_in, items_by, items_in}
 use Rattle.query_model.specs.Variables.{Variable}
 use Rattle.query_model.specs.Conditions.{Reader, Conditions, always, compares, operator_filter, column_filter, conditions_step, conditions_in, condition_at, where_filter}
 use Rattle.query_model.specs.Queries.{SessionSlot, value_names, value_names_step, pair_names_step}
-use Rattle.query_model.specs.Refusals.{refusal, refused, refused_if, or_then, first_of, pairs_fault}
+use Rattle.query_model.specs.Refusals.{refusal, refused, first_of, pairs_fault}
 use Rattle.query_model.specs.Walk.{Judged, null_by, is_null_literal, is_object, single_fault, list_fault, operator_fault, column_fault, keys_fault, condition_step, judged, judged_at, where_fault}
-use Rattle.query_model.specs.Plans.{has_column, width, operands}
+use Rattle.query_model.specs.Plans.{has_column, operands}
 use Rattle.query_model.proofs.QueryRules.{conditions-is, key-is, judged-is, judged-key, names-pair}
 use Rattle.query_laws.proofs.BareNames.{pair_names}
 use Rattle.query_laws.proofs.OnePlan.{map_same}
 use Rattle.query_laws.proofs.PlansThere.{neither}
-use Rattle.query_laws.proofs.Positions.{PlacedAt, placed_at}
+use Rattle.query_laws.proofs.Positions.{placed_at}
 use Rattle.query_laws.proofs.AgreedValues.{front_holds, back_holds}
 use Rattle.query_laws.proofs.FittingFilters.{Fit, fit-And, fit-Or, fit-Not, fit-Cmp, fit-Among, fit-IsNull}
 use Rattle.query_laws.proofs.TypedValues.{Typed, clash, some_none, none_some, same_some}
-use Rattle.query_laws.proofs.PassedValues.{Listed, ListedIn, ItemsListed, Passed, single_good, list_good}
+use Rattle.query_laws.proofs.PassedValues.{Listed, ListedIn, ItemsListed, single_good, list_good}
 
 -- ---- columns that a role sees are there
 

@@ -1,5 +1,5 @@
 -- What the walk lets pass as a value is bound, and of the kind that is wanted.
-use Rattle.std.proofs.Common.{◌≡◌, ℕ, ℤ, pos, negsuc, Bool, true, false, not, ◌&&◌, ◌||◌, if◌then◌else◌, List, [], ◌∷◌, map, int_lt, nat_le, nat_lt, slice_get, is_none, unwrap_or, Option, Some, None, option_map, option_and_then, refl, ap, sym, ◌∙◌, subst, arith}
+use Rattle.std.proofs.Common.{◌≡◌, ℕ, ℤ, pos, negsuc, Bool, true, false, not, ◌&&◌, ◌||◌, if◌then◌else◌, List, [], ◌∷◌, map, int_lt, nat_le, slice_get, is_none, unwrap_or, Option, Some, None, option_map, option_and_then, refl, ap, sym, ◌∙◌, arith}
 use Rattle.std.proofs.lemmas.Bool.{and_from, and_parts}
 use Rattle.std.proofs.lemmas.Bool.Decides.{nat_tests}
 use Rattle.std.specs.List.{list_all, AllByRecursion}
@@ -10,28 +10,24 @@ use Rattle.scalar_val.specs.declared.val.Val.TheVariants as val
 use Rattle.scalar_val.specs.Spellings.{fitted}
 use Rattle.role_model.specs.declared.filter.Binding.{Binding}
 use Rattle.role_model.specs.declared.filter.Operand.{Operand}
-use Rattle.role_model.specs.declared.filter.Operand.TheVariants.{Const, Var, Sess}
+use Rattle.role_model.specs.declared.filter.Operand.TheVariants.{Const, Var}
 use Rattle.role_model.specs.declared.filter.Items.TheVariants as items
 use Rattle.role_model.specs.declared.filter.Slot.{Slot}
 use Rattle.role_model.specs.declared.filter.Slot.TheVariants.{One, Many}
 use Rattle.role_model.specs.JsonFilters.{slot_of}
 use Rattle.role_model.specs.Roles.{View}
-use Rattle.role_model.specs.Truth.{is_null, is_bool, is_one, is_many, one_value, operand_value, operand_fits, items_fit}
+use Rattle.role_model.specs.Truth.{is_null, is_one, is_many, one_value, operand_value, operand_fits, items_fit}
 use Rattle.request_model.specs.declared.document.GValue.{GValue}
-use Rattle.request_model.specs.declared.document.GValue.TheOpen.{GValue-F}
-use Rattle.request_model.specs.declared.document.GValue.TheViews.{out-GValue}
-use Rattle.request_model.specs.declared.document.GPair.{GPair}
 use Rattle.request_model.specs.Strings.{Text}
 use Rattle.query_model.specs.declared.fault.FaultKind.TheVariants as fault
-use Rattle.query_model.specs.declared.fault.QueryFault.{QueryFault}
-use Rattle.query_model.specs.Names.{literal, literal_value, null_or_fitted, variable_by, variable_in, items_by, items_in}
+use Rattle.query_model.specs.Names.{literal, literal_value, null_or_fitted, variable_in, items_in}
 use Rattle.query_model.specs.Variables.{VarType, Variable, variable_slot, number_in, value_by, value_read}
 use Rattle.query_model.specs.Queries.{SessionSlot}
-use Rattle.query_model.specs.Refusals.{refusal, refused, refused_if, or_then, first_of}
-use Rattle.query_model.specs.Walk.{by_variable, null_fault, literal_fault, single_fault, is_null_slot, list_fault, is_below, negative_fault, is_null_literal, null_by, count_literal_fault, count_fault, batch_fault}
+use Rattle.query_model.specs.Refusals.{refusal, refused_if, or_then, first_of}
+use Rattle.query_model.specs.Walk.{by_variable, null_fault, literal_fault, single_fault, is_null_slot, list_fault, is_below, negative_fault, is_null_literal, count_literal_fault, count_fault, batch_fault}
 use Rattle.query_model.specs.Plans.{operand_by, operand_of, items_or, items_of, count_operand, is_number, count_fits}
 use Rattle.query_laws.proofs.PlansThere.{neither}
-use Rattle.query_laws.proofs.TypedValues.{is_of, is_int, Typed, typed, Declared, declared, passed_if, clash, some_none, none_some, same_some, fitted_of}
+use Rattle.query_laws.proofs.TypedValues.{is_of, is_int, Typed, typed, Declared, declared, passed_if, clash, some_none, fitted_of}
 
 -- ---- numbers
 

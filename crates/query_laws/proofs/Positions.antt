@@ -1,10 +1,10 @@
 -- Elements that pass a test: their places, and lists of which something holds throughout.
-use Rattle.std.proofs.Common.{◌≡◌, ℕ, ◌+◌, zero, suc, Bool, true, false, ◌||◌, ◌&&◌, cond, List, [], ◌∷◌, ◌++◌, length, map, find, filter_map, position, slice_get, nat_lt, Option, Some, None, option_map, unwrap_or, refl, ap, sym, subst, ◌∙◌, arith}
+use Rattle.std.proofs.Common.{◌≡◌, ℕ, ◌+◌, zero, suc, Bool, true, false, ◌||◌, cond, List, [], ◌∷◌, ◌++◌, length, map, find, filter_map, position, slice_get, nat_lt, Option, Some, None, option_map, unwrap_or, refl, ap, sym, subst, ◌∙◌, arith}
 use Rattle.std.specs.List.{cons_option, list_any, list_all, position_or_len, AllByRecursion}
 use Rattle.std.proofs.lemmas.Bool.{and_from}
 use Rattle.std.proofs.lemmas.Bool.Decides.{nat_tests}
 
-below_next : (n : ℕ) → nat_lt 0 (suc n) ≡ true
+pub below_next : (n : ℕ) → nat_lt 0 (suc n) ≡ true
 below_next n = grind (arith, nat_tests)
 
 next_below : (l n : ℕ) → nat_lt (suc l) (suc n) ≡ nat_lt l n

@@ -1,6 +1,6 @@
 -- The filters that metadata says have columns of their table, constants and session variables alone, and booleans where
 -- null is asked for.
-use Rattle.std.proofs.Common.{◌≡◌, ℕ, Bool, true, false, ◌&&◌, if◌then◌else◌, List, [], ◌∷◌, map, nat_lt, length, slice_get, position, is_some, Option, Some, None, option_map, option_and_then, refl, ap, sym, ◌∙◌, subst}
+use Rattle.std.proofs.Common.{◌≡◌, ℕ, Bool, true, false, ◌&&◌, if◌then◌else◌, List, [], ◌∷◌, nat_lt, length, slice_get, is_some, Option, Some, None, option_map, option_and_then, refl, ap, sym, ◌∙◌, subst}
 use Rattle.std.proofs.lemmas.Bool.{and_from}
 use Rattle.std.proofs.lemmas.List.Folds.{list_all-map}
 use Rattle.std.specs.Prelude.{codes}
@@ -25,7 +25,7 @@ use Rattle.role_model.specs.declared.filter.Operand.TheVariants.{Const, Var, Ses
 use Rattle.role_model.specs.JsonFilters.{with_first, of_each, of_each_member, session_variable, scalar_of, constant, operand_by, operand_of, item_of, items_of, op_named, operator_of, operators_of, column_number, condition_on, column_condition, pair_of, filter_of, filters_of, filters_of_items, pairs_of}
 use Rattle.role_model.specs.Truth.{itself}
 use Rattle.role_model.specs.Texts.{Text}
-use Rattle.query_laws.proofs.Positions.{PlacedAt, placed_at}
+use Rattle.query_laws.proofs.Positions.{placed_at}
 
 abbrev pub is_constant : Operand → Bool
 is_constant (Const x) = true

@@ -190,7 +190,7 @@ included_holds P x (y ∷ ys) all = go (slice_cmp nat_cmp x y) (exact_bytes x y)
     go Equal e more all = (subst P (sym (e refl)) all.0, all)
     go Greater e more all = let rest = more all.1 in (rest.0, (all.0, rest.1))
 
-adding_holds : (P : Text → Type 0) (xs ys : List Text) → AllByRecursion P (adding xs ys) → AllByRecursion P xs
+pub adding_holds : (P : Text → Type 0) (xs ys : List Text) → AllByRecursion P (adding xs ys) → AllByRecursion P xs
 adding_holds P [] ys all = tt
 adding_holds P (x ∷ xs) ys all = let one = included_holds P x (adding xs ys) all in (one.0, adding_holds P xs ys one.1)
 
@@ -230,7 +230,7 @@ session_is (x ∷ xs) (y ∷ ys) h k =
     ap₂ (λ (z : SessionValue) (zs : List SessionValue). z ∷ zs) (ap₂ (λ (s : SessionSlot) (z : Val). record { slot = s; value = z }) a.0 b.0) (session_is xs ys a.1 b.1)
 
 -- an admitted query has the values of its slots in their order
-slots_of : (m : Metadata) (a : Admitted) → IsAdmitted m a → map (λ (x : SessionValue). x.slot) a.query.session ≡ selection_slots (view_of m a.query) a.query.selection
+pub slots_of : (m : Metadata) (a : Admitted) → IsAdmitted m a → map (λ (x : SessionValue). x.slot) a.query.session ≡ selection_slots (view_of m a.query) a.query.selection
 slots_of m a i =
     let made = made_of m i.session i.values i.selection a i.gives in
     subst (λ (b : Admitted). map (λ (x : SessionValue). x.slot) b.query.session ≡ selection_slots (view_of m b.query) b.query.selection) made.is

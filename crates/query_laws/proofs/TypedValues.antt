@@ -1,8 +1,7 @@
 -- The values of variables are of their types, and what the walk lets pass is bound and of the kind that is wanted.
-use Rattle.std.proofs.Common.{◌≡◌, ℕ, ℤ, pos, negsuc, Bool, true, false, not, ◌&&◌, ◌||◌, if◌then◌else◌, List, [], ◌∷◌, ◌++◌, map, find, flat_map, int_lt, nat_le, slice_get, is_none, unwrap_or, Option, Some, None, option_map, option_and_then, Result, Ok, Err, refl, ap, sym, ◌∙◌, subst, arith}
+use Rattle.std.proofs.Common.{◌≡◌, ℤ, Bool, true, false, not, ◌&&◌, ◌||◌, if◌then◌else◌, List, [], ◌∷◌, Option, Some, None, option_map, Result, Ok, Err, refl, ap, sym, ◌∙◌, subst}
 use Rattle.std.proofs.lemmas.Bool.{and_from, and_parts}
-use Rattle.std.proofs.lemmas.Bool.Decides.{nat_tests}
-use Rattle.std.specs.List.{list_all, AllByRecursion}
+use Rattle.std.specs.List.{AllByRecursion}
 use Rattle.std.specs.Str.{bytes_eq}
 use Rattle.serde_json.specs.Data.{Members}
 use Rattle.serde_json.specs.Find.{get_member}
@@ -11,32 +10,19 @@ use Rattle.scalar_val.specs.declared.val.Kind.TheVariants as kind
 use Rattle.scalar_val.specs.declared.val.Val.{Val}
 use Rattle.scalar_val.specs.declared.val.Val.TheVariants as val
 use Rattle.scalar_val.specs.Spellings.{fitted, within}
-use Rattle.role_model.specs.declared.filter.Binding.{Binding}
-use Rattle.role_model.specs.declared.filter.Operand.{Operand}
-use Rattle.role_model.specs.declared.filter.Operand.TheVariants.{Const, Var, Sess}
 use Rattle.role_model.specs.declared.filter.Slot.{Slot}
 use Rattle.role_model.specs.declared.filter.Slot.TheVariants.{One, Many}
-use Rattle.role_model.specs.JsonFilters.{slot_of}
-use Rattle.role_model.specs.Roles.{View}
-use Rattle.role_model.specs.Truth.{is_null, is_bool, is_one, is_many, one_value, many_values, operand_value, operand_fits, items_fit}
+use Rattle.role_model.specs.Truth.{is_null, is_bool}
 use Rattle.request_model.specs.declared.document.VarDef.{VarDef}
-use Rattle.request_model.specs.declared.document.GValue.{GValue}
-use Rattle.request_model.specs.declared.document.GValue.TheOpen.{GValue-F}
-use Rattle.request_model.specs.declared.document.GValue.TheViews.{out-GValue}
-use Rattle.request_model.specs.declared.document.GPair.{GPair}
 use Rattle.request_model.specs.Strings.{Text}
 use Rattle.query_model.specs.declared.fault.FaultKind.{FaultKind}
 use Rattle.query_model.specs.declared.fault.FaultKind.TheVariants as fault
 use Rattle.query_model.specs.declared.fault.QueryFault.{QueryFault}
-use Rattle.query_model.specs.Names.{literal, literal_value, null_or_fitted, variable_by, variable_in, items_by, items_in}
-use Rattle.query_model.specs.Variables.{VarType, Input, Single, Several, null_unless, or_wrong, as_list, single_value, item_values, input_value, counted, type_of, Variable, with_value, typed_variable, variable_of, variable_named, slot_in, variable_slot, number_in, value_by, value_read}
-use Rattle.query_model.specs.Queries.{SessionSlot}
-use Rattle.query_model.specs.Refusals.{refusal, refused, refused_if, or_then, first_of}
-use Rattle.query_model.specs.Walk.{same_kind, has_type, declared_fault, by_variable, null_fault, literal_fault, single_fault, is_null_slot, list_fault, is_below, negative_fault, is_null_literal, count_literal_fault, count_fault, batch_fault}
+use Rattle.query_model.specs.Variables.{VarType, Input, Single, Several, null_unless, or_wrong, as_list, item_values, input_value, counted, type_of, Variable, with_value, typed_variable, variable_of, variable_named, slot_in, variable_slot}
+use Rattle.query_model.specs.Refusals.{refusal, refused, refused_if}
+use Rattle.query_model.specs.Walk.{same_kind, has_type, declared_fault}
 use Rattle.query_model.specs.Admission.{with_variable, variables_of}
-use Rattle.query_model.specs.Plans.{operand_by, operand_of, items_or, items_of, count_operand, is_number, count_fits}
 use Rattle.query_laws.proofs.Positions.{each_found}
-use Rattle.query_laws.proofs.PlansThere.{neither}
 
 -- ---- values of kinds, as far as is asked
 
