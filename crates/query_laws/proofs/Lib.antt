@@ -18,3 +18,4 @@ pub mod PassedConditions
 pub mod FittingSelects
 pub mod FittingPlans
 pub mod PlansThatFit
+pub mod SameTruths
