@@ -19,3 +19,4 @@ pub mod FittingSelects
 pub mod FittingPlans
 pub mod PlansThatFit
 pub mod SameTruths
+pub mod SamePermissions
