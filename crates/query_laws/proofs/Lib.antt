@@ -20,3 +20,4 @@ pub mod FittingPlans
 pub mod PlansThatFit
 pub mod SameTruths
 pub mod SamePermissions
+pub mod PlannedWanted

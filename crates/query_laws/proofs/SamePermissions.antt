@@ -1,12 +1,10 @@
 -- The role's filters with slots of a binding are as true as those with the values of the session in their places.
-use Rattle.std.proofs.Common.{◌≡◌, ℕ, suc, Bool, true, false, ◌&&◌, ◌||◌, List, [], ◌∷◌, ◌++◌, map, flat_map, find, position, slice_get, nat_lt, unwrap_or, cond, Option, Some, None, option_map, refl, ap, ap₂, sym, ◌∙◌, subst, is_eq}
+use Rattle.std.proofs.Common.{◌≡◌, ℕ, suc, Bool, true, false, List, [], ◌∷◌, map, flat_map, find, position, slice_get, nat_lt, unwrap_or, cond, Option, Some, None, option_map, refl, ap, ap₂, sym, ◌∙◌, subst, is_eq}
 use Rattle.std.proofs.lemmas.Bool.{and_parts}
 use Rattle.std.specs.List.{list_all, list_any, AllByRecursion}
-use Rattle.scalar_val.specs.declared.val.Val.{Val}
 use Rattle.scalar_val.specs.declared.val.Val.TheVariants as val
 use Rattle.role_model.specs.declared.filter.Binding.{Binding}
 use Rattle.role_model.specs.declared.filter.Filter.{Filter}
-use Rattle.role_model.specs.declared.filter.Filter.TheVariants as filter
 use Rattle.role_model.specs.declared.filter.Filter.TheOpen.{Filter-F}
 use Rattle.role_model.specs.declared.filter.Filter.TheViews.{roll-Filter}
 use Rattle.role_model.specs.declared.filter.Filter.TheFolds.{fold-Filter, fold-roll-Filter, map-Filter, ind-Filter}
@@ -21,7 +19,7 @@ use Rattle.request_model.specs.Strings.{Text}
 use Rattle.request_model.proofs.ReadArguments.{firsts}
 use Rattle.query_model.specs.Names.{kind_of}
 use Rattle.query_model.specs.Queries.{Query, SessionSlot, SessionValue, slot_cmp, session_name, slots_of, filter_slots_step, filter_slots, view_of}
-use Rattle.query_model.specs.Results.{nothing_bound, items_changed, changed_step, changed, session_value, closing}
+use Rattle.query_model.specs.Results.{nothing_bound, items_changed, changed_step, session_value, closing}
 use Rattle.query_model.specs.Plans.{slotting}
 use Rattle.query_laws.proofs.Positions.{position_here, position_past, some_is, not_some, has_place}
 use Rattle.query_laws.proofs.AgreedValues.{front_holds, back_holds}

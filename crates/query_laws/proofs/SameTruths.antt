@@ -1,49 +1,44 @@
 -- Conditions of a plan with its binding are as true as those with the values themselves in their places.
-use Rattle.std.proofs.Common.{◌≡◌, ℕ, Bool, true, false, ◌&&◌, ◌||◌, if◌then◌else◌, List, [], ◌∷◌, ◌++◌, map, flat_map, find, position, slice_get, nat_lt, length, unwrap_or, cond, Option, Some, None, option_map, refl, ap, ap₂, sym, ◌∙◌, subst, is_eq, map-id}
-use Rattle.std.proofs.lemmas.Bool.{and_parts}
+use Rattle.std.proofs.Common.{◌≡◌, ℕ, Bool, true, false, if◌then◌else◌, List, [], ◌∷◌, map, slice_get, Option, Some, None, refl, ap, ap₂, sym, ◌∙◌, subst}
 use Rattle.std.specs.Prelude.{codes}
 use Rattle.std.specs.Str.{bytes_eq}
-use Rattle.std.specs.List.{list_all, list_any, AllByRecursion}
+use Rattle.std.specs.List.{AllByRecursion}
 use Rattle.scalar_val.specs.declared.val.Kind.{Kind}
 use Rattle.scalar_val.specs.declared.val.Kind.TheVariants as kind
 use Rattle.scalar_val.specs.declared.val.Val.{Val}
-use Rattle.scalar_val.specs.declared.val.Val.TheVariants as val
 use Rattle.data_model.specs.Rows.{Row}
 use Rattle.role_model.specs.declared.filter.Binding.{Binding}
 use Rattle.role_model.specs.declared.filter.Filter.{Filter}
 use Rattle.role_model.specs.declared.filter.Filter.TheVariants as filter
-use Rattle.role_model.specs.declared.filter.Filter.TheOpen.{Filter-F}
-use Rattle.role_model.specs.declared.filter.Filter.TheViews.{roll-Filter}
-use Rattle.role_model.specs.declared.filter.Filter.TheFolds.{fold-Filter, fold-roll-Filter, map-Filter, ind-Filter}
 use Rattle.role_model.specs.declared.filter.Items.{Items}
 use Rattle.role_model.specs.declared.filter.Items.TheVariants as items
 use Rattle.role_model.specs.declared.filter.Op.{Op}
 use Rattle.role_model.specs.declared.filter.Operand.{Operand}
-use Rattle.role_model.specs.declared.filter.Operand.TheVariants.{Const, Var, Sess}
+use Rattle.role_model.specs.declared.filter.Operand.TheVariants.{Const}
 use Rattle.role_model.specs.JsonFilters.{op_named}
 use Rattle.role_model.specs.Roles.{View, column_seen}
 use Rattle.role_model.specs.declared.filter.TruthValue.{TruthValue}
-use Rattle.role_model.specs.Truth.{itself, all_of, any_of, negated, negated_if, compared, among, null_as_wanted, value_at, many_values, operand_value, item_values, truth_of}
+use Rattle.role_model.specs.Truth.{all_of, any_of, negated, negated_if, compared, among, null_as_wanted, value_at, many_values, operand_value, item_values, truth_of}
 use Rattle.role_model.proofs.Truths.{truth_of-And, truth_of-Or, truth_of-Not, truth_of-Cmp, truth_of-Among, truth_of-IsNull}
 use Rattle.request_model.specs.declared.document.GValue.{GValue}
-use Rattle.request_model.specs.declared.document.GValue.TheOpen.{GValue-F, GPair-F}
-use Rattle.request_model.specs.declared.document.GValue.TheViews.{out-GValue, roll-GValue, out-roll-GValue, out-GPair, roll-GPair, out-roll-GPair}
+use Rattle.request_model.specs.declared.document.GValue.TheOpen.{GValue-F}
+use Rattle.request_model.specs.declared.document.GValue.TheViews.{roll-GValue, out-roll-GValue, out-GPair, roll-GPair, out-roll-GPair}
 use Rattle.request_model.specs.declared.document.GValue.TheFolds.{map-GValue, ind-GValue}
 use Rattle.request_model.specs.declared.document.GPair.{GPair}
 use Rattle.request_model.specs.Strings.{Text}
 use Rattle.request_model.specs.Selection.{concatenated}
 use Rattle.request_model.proofs.ReadArguments.{firsts}
 use Rattle.query_model.specs.Names.{kind_of, pair_name, pair_value, variable_in, pairs_in, items_in}
-use Rattle.query_model.specs.Variables.{Variable, variable_slot, value_read, values_by, values_read}
-use Rattle.query_model.specs.Conditions.{Reader, Conditions, always, compares, operator_filter, column_filter, conditions_step, conditions_in, condition_at, where_filter}
+use Rattle.query_model.specs.Variables.{Variable, value_read, values_by, values_read}
+use Rattle.query_model.specs.Conditions.{Reader, Conditions, compares, operator_filter, column_filter, conditions_step, conditions_in, condition_at, where_filter}
 use Rattle.query_model.specs.Queries.{SessionSlot, value_names}
 use Rattle.query_model.specs.Results.{nothing_bound}
-use Rattle.query_model.specs.Plans.{operands, operand_of, items_or, items_of}
+use Rattle.query_model.specs.Plans.{operands, operand_of, items_or}
 use Rattle.query_model.proofs.QueryRules.{conditions-is, key-is}
 use Rattle.query_laws.proofs.BareNames.{pair_names}
 use Rattle.query_laws.proofs.AgreedValues.{front_holds, back_holds}
 use Rattle.query_laws.proofs.TypedValues.{Typed}
-use Rattle.query_laws.proofs.PassedValues.{Listed, ListedIn, ItemsListed, read_bound}
+use Rattle.query_laws.proofs.PassedValues.{ListedIn, ItemsListed, read_bound}
 use Rattle.query_laws.proofs.PassedConditions.{AllListed, variable_listed, items_listed, names_by, names_out, pairs_out, pairs_listed, PairListed}
 
 module _ (b : Binding) where
