@@ -21,3 +21,5 @@ pub mod PlansThatFit
 pub mod SameTruths
 pub mod SamePermissions
 pub mod PlannedWanted
+pub mod PlannedSelects
+pub mod PlannedResults

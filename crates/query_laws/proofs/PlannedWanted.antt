@@ -80,7 +80,7 @@ module _ (m : Metadata) (q : Query) (names : List Text) (slots : List SessionSlo
 
   -- ---- counts
 
-  abbrev ListedAt : Option GValue → Type 0
+  abbrev pub ListedAt : Option GValue → Type 0
   ListedAt (Some x) = ListedIn (view_of m q) names slots b q.variables all (variable_in x)
   ListedAt None = Unit {0}
 
