@@ -18,3 +18,8 @@ pub mod PassedConditions
 pub mod FittingSelects
 pub mod FittingPlans
 pub mod PlansThatFit
+pub mod SameTruths
+pub mod SamePermissions
+pub mod PlannedWanted
+pub mod PlannedSelects
+pub mod PlannedResults

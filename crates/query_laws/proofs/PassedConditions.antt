@@ -84,10 +84,10 @@ module _ (w : View) (names : List Text) (slots : List SessionSlot) (b : Binding)
 
   -- ---- the names in a value
 
-  abbrev names_by : GValue-F GValue GPair → List Text
+  abbrev pub names_by : GValue-F GValue GPair → List Text
   names_by f = value_names_step (map-GValue GValue GPair (List Text) (List Text) value_names (fold-GPair (List Text) (List Text) value_names_step pair_names_step) f)
 
-  names_out : (x : GValue) → value_names x ≡ names_by (out-GValue x)
+  pub names_out : (x : GValue) → value_names x ≡ names_by (out-GValue x)
   names_out x = fold_out-GValue (List Text) (List Text) value_names_step pair_names_step x
 
   pub variable_listed : (x : GValue) → AllListed (value_names x) → ListedIn w names slots b vars all (variable_in x)
@@ -103,12 +103,12 @@ module _ (w : View) (names : List Text) (slots : List SessionSlot) (b : Binding)
       go (GValue-F.Many xs) h = tt
       go (GValue-F.Object ps) h = tt
 
-  each_listed : (xs : List GValue) → AllListed (concatenated (map value_names xs)) → ItemsListed w names slots b vars all xs
+  pub each_listed : (xs : List GValue) → AllListed (concatenated (map value_names xs)) → ItemsListed w names slots b vars all xs
   each_listed [] h = tt
   each_listed (x ∷ xs) h =
       (variable_listed x (front_holds IsListed (value_names x) (concatenated (map value_names xs)) h), each_listed xs (back_holds IsListed (value_names x) (concatenated (map value_names xs)) h))
 
-  items_listed : (x : GValue) → AllListed (value_names x) → ItemsListed w names slots b vars all (items_in x)
+  pub items_listed : (x : GValue) → AllListed (value_names x) → ItemsListed w names slots b vars all (items_in x)
   items_listed x h = go (out-GValue x) (subst AllListed (names_out x) h) (variable_listed x h, tt)
     where
       go : (f : GValue-F GValue GPair) → AllListed (names_by f) → ItemsListed w names slots b vars all (x ∷ []) → ItemsListed w names slots b vars all (items_by x f)
@@ -121,18 +121,18 @@ module _ (w : View) (names : List Text) (slots : List SessionSlot) (b : Binding)
       go (GValue-F.Many xs) h one = each_listed xs h
       go (GValue-F.Object ps) h one = one
 
-  abbrev PairListed : GPair → Type 0
+  abbrev pub PairListed : GPair → Type 0
   PairListed p = AllListed (pair_names p)
 
   pairs_split : (ps : List GPair) → AllListed (concatenated (map pair_names ps)) → AllByRecursion PairListed ps
   pairs_split [] h = tt
   pairs_split (p ∷ ps) h = (front_holds IsListed (pair_names p) (concatenated (map pair_names ps)) h, pairs_split ps (back_holds IsListed (pair_names p) (concatenated (map pair_names ps)) h))
 
-  pairs_out : (ps : List GPair) → AllListed (names_by (GValue-F.Object ps)) → AllByRecursion PairListed ps
+  pub pairs_out : (ps : List GPair) → AllListed (names_by (GValue-F.Object ps)) → AllByRecursion PairListed ps
   pairs_out ps h =
       pairs_split ps (subst (λ ts. AllListed (concatenated ts)) (map_same (fold-GPair (List Text) (List Text) value_names_step pair_names_step) pair_names names-pair ps) h)
 
-  pairs_listed : (x : GValue) → AllListed (value_names x) → AllByRecursion PairListed (pairs_in x)
+  pub pairs_listed : (x : GValue) → AllListed (value_names x) → AllByRecursion PairListed (pairs_in x)
   pairs_listed x h = go (out-GValue x) (subst AllListed (names_out x) h)
     where
       go : (f : GValue-F GValue GPair) → AllListed (names_by f) → AllByRecursion PairListed (pairs_by f)

@@ -193,7 +193,7 @@ module _ (w : View) (names : List Text) (slots : List SessionSlot) (b : Binding)
   batch_number (val.Text z) h k = absurd (clash (sym h))
   batch_number (val.Uuid z) h k = absurd (clash (sym h))
 
-  read_bound : (k : Kind) (x : GValue) → ListedIn (variable_in x) → value_read vars k x ≡ operand_value b (the_operand k x)
+  pub read_bound : (k : Kind) (x : GValue) → ListedIn (variable_in x) → value_read vars k x ≡ operand_value b (the_operand k x)
   read_bound k x l = go (variable_in x) l
     where
       go : (o : Option Text) → ListedIn o → value_by vars (literal_value k x) o ≡ operand_value b (operand_by w names slots (Const (literal_value k x)) o)

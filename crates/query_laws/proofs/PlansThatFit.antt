@@ -214,13 +214,13 @@ module _ (w : View) (names : List Text) (slots : List SessionSlot) (b : Binding)
 
 -- ---- what an admitted query is
 
-record Admission (m : Metadata) (a : Admitted) : Type 0 where
-  root : FlatField
-  only : a.query.selection.fields ≡ root ∷ []
-  typed : AllByRecursion Typed a.query.variables
-  walked : walk_fault a.query.variables (view_of m a.query) a.query.selection root ≡ None
+pub record Admission (m : Metadata) (a : Admitted) : Type 0 where
+  pub root : FlatField
+  pub only : a.query.selection.fields ≡ root ∷ []
+  pub typed : AllByRecursion Typed a.query.variables
+  pub walked : walk_fault a.query.variables (view_of m a.query) a.query.selection root ≡ None
 
-admission_of : (m : Metadata) (a : Admitted) → IsAdmitted m a → Admission m a
+pub admission_of : (m : Metadata) (a : Admitted) → IsAdmitted m a → Admission m a
 admission_of m a i =
     let made = made_of m i.session i.values i.selection a i.gives in
     subst (Admission m) made.is (record { root = made.root; only = only_root i.selection.fields made.root made.one; typed = variables_typed i.values i.selection.vars made.vars made.read; walked = made.walked })
@@ -269,7 +269,7 @@ filled : (xs : List SessionSlot) → AllByRecursion (λ x. nat_lt 0 (length (dis
 filled [] = tt
 filled (x ∷ xs) = every (nat_lt 0 (length (distinct_in_order slot_cmp (x ∷ xs))) ≡ true) (filled_one x (distinct_in_order slot_cmp xs)) (x ∷ xs)
 
-split_by : {X : Type 0} (P : SessionSlot → Type 0) (f : X → List SessionSlot) (xs : List X) → AllByRecursion P (flat_map f xs) → AllByRecursion (λ x. AllByRecursion P (f x)) xs
+pub split_by : {X : Type 0} (P : SessionSlot → Type 0) (f : X → List SessionSlot) (xs : List X) → AllByRecursion P (flat_map f xs) → AllByRecursion (λ x. AllByRecursion P (f x)) xs
 split_by P f [] h = tt
 split_by P f (x ∷ xs) h = (front_holds P (f x) (flat_map f xs) h, split_by P f xs (back_holds P (f x) (flat_map f xs) h))
 
@@ -304,7 +304,7 @@ module _ (m : Metadata) (a : Admitted) (i : IsAdmitted m a) (cursor : Val) where
   abbrev IsListed : Text → Type 0
   IsListed n = slice_get b.vars (slot_of names n) ≡ Some (variable_slot vars n)
 
-  names_listed : (f : FlatField) → s.fields ≡ f ∷ [] → AllByRecursion IsListed (flat_map (λ p. value_names (pair_value (bare_argument p))) (out-FlatField f).args ++ concatenated (map all_names (out-FlatField f).fields))
+  pub names_listed : (f : FlatField) → s.fields ≡ f ∷ [] → AllByRecursion IsListed (flat_map (λ p. value_names (pair_value (bare_argument p))) (out-FlatField f).args ++ concatenated (map all_names (out-FlatField f).fields))
   names_listed f e =
       subst (AllByRecursion IsListed) (fold_out-FlatField (List Text) field_names_step f)
       (front_holds IsListed (all_names f) []

@@ -16,14 +16,14 @@ next_below' l n = grind (arith, nat_tests)
 at_front : (n : ℕ) → cond {A = Option ℕ} (nat_lt 0 (suc n)) (Some 0) None ≡ Some 0
 at_front n = rw (below_next n) refl
 
-position_here : {X : Type 0} (p : X → Bool) (x : X) (xs : List X) → p x ≡ true → position p (x ∷ xs) ≡ Some 0
+pub position_here : {X : Type 0} (p : X → Bool) (x : X) (xs : List X) → p x ≡ true → position p (x ∷ xs) ≡ Some 0
 position_here p x xs h = rw h (at_front (length xs))
 
 next : (b : Bool) (l : ℕ) → cond {A = Option ℕ} b (Some (1 + l)) None ≡ option_map suc (cond b (Some l) None)
 next true l = ap (λ k. Some k) (omega arith)
 next false l = refl
 
-position_past : {X : Type 0} (p : X → Bool) (x : X) (xs : List X) → p x ≡ false → position p (x ∷ xs) ≡ option_map suc (position p xs)
+pub position_past : {X : Type 0} (p : X → Bool) (x : X) (xs : List X) → p x ≡ false → position p (x ∷ xs) ≡ option_map suc (position p xs)
 position_past p x xs h = rw (h, next_below' (position_or_len p xs) (length xs)) (next (nat_lt (position_or_len p xs) (length xs)) (position_or_len p xs))
 
 pub record PlacedAt {X : Type 0} (p : X → Bool) (xs : List X) (i : ℕ) : Type 0 where
@@ -33,10 +33,10 @@ pub record PlacedAt {X : Type 0} (p : X → Bool) (xs : List X) (i : ℕ) : Type
   pub first : find p xs ≡ Some item
   pub within : nat_lt i (length xs) ≡ true
 
-some_is : {X : Type 0} (x y : X) → ◌≡◌ {A = Option X} (Some x) (Some y) → x ≡ y
+pub some_is : {X : Type 0} (x y : X) → ◌≡◌ {A = Option X} (Some x) (Some y) → x ≡ y
 some_is x y h = cc
 
-not_some : {X : Type 0} (x : X) → ◌≡◌ {A = Option X} None (Some x) → ⊥
+pub not_some : {X : Type 0} (x : X) → ◌≡◌ {A = Option X} None (Some x) → ⊥
 not_some x h = cc
 
 pub placed_at : {X : Type 0} (p : X → Bool) (xs : List X) (i : ℕ) → position p xs ≡ Some i → PlacedAt p xs i

@@ -1,4 +1,4 @@
-ghost use Rattle.query_model.specs.Laws.{AdmitsOnce, PlansAreThere, PlansFit, PollersHaveOnePlan, CohortsHaveOneResult};
+ghost use Rattle.query_model.specs.Laws.{AdmitsOnce, PlansAreThere, PlansFit, PlannedIsResult, PollersHaveOnePlan, CohortsHaveOneResult};
 
 /// A request comes to one answer: its text has one first fault or says one document, and that is refused in one way or
 /// admitted with one query and one initial cursor. Nobody can be told two answers to the same request.
@@ -9,9 +9,12 @@ pub fn requests()
 /// Each admitted query has a plan: admission leaves no query without one. It fits the catalog: all of its tables and
 /// columns are there, and a stream stands at the root alone. And the query's binding fits it, with any cursor: each slot
 /// of a variable or of a session variable is there and holds what is wanted of it.
+/// What the plan gives with the query's binding, on a database that fits the catalog, is the query's result, with any
+/// cursor for a stream and with null for every other query.
 pub fn plans()
     ensures there { PlansAreThere }
     ensures fit { PlansFit }
+    ensures result { PlannedIsResult }
 {}
 
 /// Admitted queries of one poller, of the same word, role and canonical text, have one plan, whatever their variables,
