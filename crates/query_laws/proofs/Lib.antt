@@ -23,3 +23,10 @@ pub mod SamePermissions
 pub mod PlannedWanted
 pub mod PlannedSelects
 pub mod PlannedResults
+pub mod SortedRows
+pub mod StreamOrder
+pub mod StreamPieces
+pub mod StreamTables
+pub mod SettledTables
+pub mod StreamGrowth
+pub mod StreamsOnce

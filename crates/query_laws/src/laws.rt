@@ -1,4 +1,4 @@
-ghost use Rattle.query_model.specs.Laws.{AdmitsOnce, PlansAreThere, PlansFit, PlannedIsResult, PollersHaveOnePlan, CohortsHaveOneResult};
+ghost use Rattle.query_model.specs.Laws.{AdmitsOnce, PlansAreThere, PlansFit, PlannedIsResult, PollersHaveOnePlan, CohortsHaveOneResult, StreamsSendOnce};
 
 /// A request comes to one answer: its text has one first fault or says one document, and that is refused in one way or
 /// admitted with one query and one initial cursor. Nobody can be told two answers to the same request.
@@ -29,4 +29,13 @@ pub fn pollers()
 /// name, and the cursor, and a result depends on no others.
 pub fn cohorts()
     ensures result { CohortsHaveOneResult }
+{}
+
+/// A stream sends each row once and in order: what it sends at versions that never fall, from its initial cursor on, is
+/// the matching rows of the last version that lie beyond the initial value and not beyond the cursor that it has come to,
+/// in the order of its column. This holds where the column is unique, or the whole key, and where, from the version at
+/// which the stream begins, each change of its table inserts a value beyond all that are present. Batches of any size and
+/// versions that are left out change nothing of it.
+pub fn streams()
+    ensures once { StreamsSendOnce }
 {}

@@ -5,4 +5,4 @@ mod laws;
 #[cfg(test)]
 mod tests;
 
-pub use laws::{cohorts, plans, pollers, requests};
+pub use laws::{cohorts, plans, pollers, requests, streams};

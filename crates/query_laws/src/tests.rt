@@ -1,4 +1,4 @@
-use crate::{cohorts, plans, pollers, requests};
+use crate::{cohorts, plans, pollers, requests, streams};
 
 #[test]
 fn laws_take_no_time() {
@@ -6,4 +6,5 @@ fn laws_take_no_time() {
     plans();
     pollers();
     cohorts();
+    streams();
 }
