@@ -302,13 +302,7 @@ pub fn collected<'a>(
     ensures { IfOk result (λ found. found ≡ spec.collected (scope_of scope.now) set.now) }
 {
     let mut found = nothing(alloc);
-    collect(
-        alloc,
-        scope,
-        scope.fragments.as_slice().len(),
-        set,
-        &mut found,
-    )?;
+    collect(alloc, scope, scope.fragment_count(), set, &mut found)?;
     Ok(found)
 }
 
@@ -350,7 +344,7 @@ pub fn collected_inside<'a>(
     ensures { IfOk result (λ found. found ≡ spec.collected (scope_of scope.now) (spec.inner_set group.now)) }
 {
     let mut found = nothing(alloc);
-    let depth = scope.fragments.as_slice().len();
+    let depth = scope.fragment_count();
     collect_selected(alloc, scope, depth, &group.first, &mut found)?;
     collect_fields(alloc, scope, depth, group.others.as_slice(), &mut found)?;
     Ok(found)

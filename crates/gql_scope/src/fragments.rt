@@ -53,6 +53,7 @@ fn at<'a, 'b>(fragments: &'b [Fragment<'a>], place: usize) -> Option<&'b Fragmen
 }
 
 impl<'a> Fragments<'a> {
+    /// The fragments in their order, with a map of their names. It fails only for want of memory.
     pub fn of(alloc: Global, items: Vec<Fragment<'a>>) -> Result<Fragments<'a>, NoMemory>
         ensures { IfOk result (λ fragments. fragments ≡ items.entry.items) }
     {
@@ -60,6 +61,7 @@ impl<'a> Fragments<'a> {
         Ok(Fragments { items, names })
     }
 
+    /// The fragments in their order.
     pub fn as_slice(&self) -> &[Fragment<'a>]
         ensures { result.now ≡ self.now }
     {

@@ -94,6 +94,7 @@ fn put_new<'a>(
 }
 
 impl<'a> Names<'a> {
+    /// No names. It takes no memory.
     pub fn new(alloc: Global) -> Names<'a>
         ensures { result ≡ [] }
     {

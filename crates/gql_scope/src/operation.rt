@@ -12,6 +12,7 @@ use scalar_val::{NoMemory, Str};
 use std::alloc::Global;
 use std::marker::Model;
 
+/// Whether two names are the same, byte by byte.
 pub fn same(a: &str, b: &str) -> bool
     ensures { result ≡ bytes_eq a.now b.now }
 {

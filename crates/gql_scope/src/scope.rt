@@ -110,6 +110,7 @@ fn boolean_at(booleans: &[Option<bool>], place: usize) -> Option<bool>
 
 impl<'a> Scope<'a> {
     /// The scope of an operation. Each variable's value is looked up here, once.
+    /// The fragments, variables and values, with each variable's boolean. It fails only for want of memory.
     pub fn of(
         alloc: Global,
         fragments: Fragments<'a>,
@@ -136,6 +137,7 @@ impl<'a> Scope<'a> {
         self.vars
     }
 
+    /// How many fragments the document has.
     /// How many fragments the document has.
     pub fn fragment_count(&self) -> usize
         ensures { result ≡ length (scope_of self.now).fragments }
