@@ -13,7 +13,8 @@ use Rattle.scalar_val.specs.ValOrder.{val_cmp}
 use Rattle.data_model.specs.declared.catalog.Column.{Column}
 use Rattle.data_model.specs.declared.catalog.TableDef.{TableDef}
 use Rattle.data_model.specs.declared.transaction.SetCell.{SetCell}
-use Rattle.data_model.specs.Rows.{Row, Rows, Database, cell, key_of, key_cmp, is_below, is_above, is_null, stands_in, may_stand, set_cells, row_fits, alike_at, clash, Pairwise, Ascends, FitsTable, FitAll}
+use Rattle.scalar_val.specs.Values.{is_null, cell}
+use Rattle.data_model.specs.Rows.{Row, Rows, Database, key_of, key_cmp, is_below, is_above, stands_in, may_stand, set_cells, row_fits, alike_at, clash, Pairwise, Ascends, FitsTable, FitAll}
 use Rattle.data_model.specs.Places.{IsFree, IsHeld}
 use Rattle.data_model.proofs.Lists.{or_false, all_in, all_out, none_from_any, out_append, out_parts, pairwise_with, pairwise_without, pairwise_before, pairwise_after}
 use Rattle.data_model.proofs.Places.{is_less, lt_is, gt_is, eq_is, held_parts}

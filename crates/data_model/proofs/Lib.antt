@@ -1,3 +1,5 @@
+pub mod Found
+pub mod Gives
 pub mod Lists
 pub mod Places
 pub mod Fitting

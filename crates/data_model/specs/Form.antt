@@ -7,25 +7,17 @@ use Rattle.serde_json.specs.Find.{as_i64, as_str, get_member}
 use Rattle.serde_json.specs.Read.{read}
 use Rattle.scalar_val.specs.declared.val.Val.{Val}
 use Rattle.scalar_val.specs.declared.val.Val.TheVariants as val
+use Rattle.data_model.specs.JsonParts.{required, scalar_or_null}
 use Rattle.data_model.specs.declared.transaction.TxCell.{TxCell}
 use Rattle.data_model.specs.declared.transaction.TxChange.{TxChange}
 use Rattle.data_model.specs.declared.transaction.TxChange.TheVariants.{Insert, Update, Delete}
-
--- null, a boolean, an integer of 64 bits, or a string
-abbrev pub scalar_of : Data → Option Val
-scalar_of null = Some val.Null
-scalar_of (boolean b) = Some (val.Bool b)
-scalar_of (number n) = option_map val.Big (as_i64 n)
-scalar_of (string s) = Some (val.Text s)
-scalar_of (array ds) = None
-scalar_of (object ms) = None
 
 abbrev pub cell_of : List ℕ → Val → TxCell
 cell_of name value = record { column = name; value = value }
 
 abbrev pub cells_from : Members → Option (List TxCell)
 cells_from no_members = Some []
-cells_from (member name d ms) = option_and_then (λ v. option_map (λ rest. cell_of name v ∷ rest) (cells_from ms)) (scalar_of d)
+cells_from (member name d ms) = option_and_then (λ v. option_map (λ rest. cell_of name v ∷ rest) (cells_from ms)) (scalar_or_null d)
 
 -- an object whose values are scalars
 abbrev pub cells_of : Data → Option (List TxCell)
@@ -45,10 +37,10 @@ abbrev pub has_exactly : List (List ℕ) → Members → Bool
 has_exactly names ms = (count ms == length names) && list_all (λ name. is_some (get_member name ms)) names
 
 abbrev pub text_at : List ℕ → Members → Option (List ℕ)
-text_at name ms = option_and_then as_str (get_member name ms)
+text_at = required as_str
 
 abbrev pub cells_at : List ℕ → Members → Option (List TxCell)
-cells_at name ms = option_and_then cells_of (get_member name ms)
+cells_at = required cells_of
 
 abbrev pub insert_form : Members → Option TxChange
 insert_form ms = option_and_then (λ table. option_map (Insert table) (cells_at (codes "row") ms)) (text_at (codes "insert") ms)

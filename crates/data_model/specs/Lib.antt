@@ -1,5 +1,7 @@
 pub mod Cells
 pub mod Form
+pub mod JsonParts
+pub mod Naming
 pub mod Places
 pub mod Rows
 pub mod Transactions

@@ -10,6 +10,7 @@ use Rattle.scalar_val.specs.declared.val.Val.TheVariants as val
 use Rattle.scalar_val.specs.declared.val.Kind.{Kind}
 use Rattle.scalar_val.specs.declared.val.Kind.TheVariants as kind
 use Rattle.scalar_val.specs.ValOrder.{val_cmp}
+use Rattle.scalar_val.specs.Values.{cell, has_kind, is_null}
 use Rattle.data_model.specs.declared.catalog.Column.{Column}
 use Rattle.data_model.specs.declared.catalog.TableDef.{TableDef}
 use Rattle.data_model.specs.declared.catalog.Catalog.{Catalog}
@@ -28,9 +29,6 @@ Rows = List Row
 abbrev pub Database : Type 0
 Database = List Rows
 
-abbrev pub cell : Row → ℕ → Val
-cell row column = unwrap_or (slice_get row column) val.Null
-
 abbrev pub key_of : TableDef → Row → List Val
 key_of table row = map (cell row) table.key
 
@@ -46,18 +44,6 @@ is_below table key row = is_lt (key_cmp (key_of table row) key)
 
 abbrev pub is_above : TableDef → List Val → Row → Bool
 is_above table key row = is_gt (key_cmp (key_of table row) key)
-
-abbrev pub is_null : Val → Bool
-is_null val.Null = true
-is_null _ = false
-
-abbrev pub has_kind : Kind → Val → Bool
-has_kind kind.Bool (val.Bool b) = true
-has_kind kind.Int (val.Int z) = true
-has_kind kind.Big (val.Big z) = true
-has_kind kind.Text (val.Text t) = true
-has_kind kind.Uuid (val.Uuid n) = true
-has_kind _ _ = false
 
 -- null where the column is nullable, else a value of its kind
 abbrev pub stands_in : Column → Val → Bool

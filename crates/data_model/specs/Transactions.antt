@@ -15,7 +15,8 @@ use Rattle.data_model.specs.declared.transaction.TxFault.{TxFault}
 use Rattle.data_model.specs.declared.transaction.TxCell.{TxCell}
 use Rattle.data_model.specs.declared.transaction.TxChange.{TxChange}
 use Rattle.data_model.specs.declared.transaction.TxChange.TheVariants.{Insert, Update, Delete}
-use Rattle.data_model.specs.Rows.{Row, Rows, Database, is_null, no_rows, inserted, updated, deleted, Test, test, first_reason, insert_tests, update_tests, delete_tests}
+use Rattle.scalar_val.specs.Values.{is_null}
+use Rattle.data_model.specs.Rows.{Row, Rows, Database, no_rows, inserted, updated, deleted, Test, test, first_reason, insert_tests, update_tests, delete_tests}
 
 abbrev pub is_column : List ℕ → Column → Bool
 is_column name column = bytes_eq column.name name

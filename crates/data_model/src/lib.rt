@@ -2,7 +2,11 @@
 #![tactic(auto)]
 
 mod catalog;
+mod json_parts;
+#[cfg(test)]
+mod tests;
 mod transaction;
 
 pub use catalog::{Catalog, Column, ColumnDefList, ColumnList, TableDef, TableDefList};
+pub use json_parts::{member, read_scalar, read_scalar_or_null};
 pub use transaction::{Reason, SetCell, Tx, TxCell, TxCells, TxChange, TxFault};

@@ -1,15 +1,22 @@
-ghost use Rattle.std.specs.Prelude.{◌≡◌, ◌++◌, ◌∷◌, [], if◌then◌else◌, List, unwrap_or, Some, None, Ok, Err, IfOk, OnOk, IfErr, map, option_map, option_and_then, slice_get, is_some, codes, position};
+ghost use Rattle.std.specs.Prelude.{◌≡◌, ◌≤◌, ◌<◌, ◌++◌, ◌∷◌, [], if◌then◌else◌, length, unwrap_or, Some, None, IfOk};
+ghost use Rattle.std.specs.Prelude.{OnOk, IfSome};
+ghost use Rattle.std.specs.Prelude.{option_map, option_and_then, position};
 ghost use Rattle.std.specs.List.{fold, list_any};
 ghost use Rattle.std.specs.Option.{option_copied};
 ghost use Rattle.std.specs.Str.{bytes_eq, str_to_ascii_lowercase};
 ghost use Rattle.serde_json.specs.Find.{as_bool};
 ghost use Rattle.serde_json.specs.View.{view, items_view, members_view};
 ghost use Rattle.scalar_val.specs.Spellings.{fitted};
-ghost use Rattle.role_model.specs.JsonFilters.{names_session, session_variable, scalar_of, constant, operand_by, operand_of, item_of, items_of, op_named, operator_of, operators_of, column_number, condition_on, column_condition, pair_of, filter_of, filters_of, filters_of_items, pairs_of, of_each, of_each_member, slot_of, with_text, mentions, mentions_of_items, mentions_of_members};
+ghost use Rattle.data_model.specs.JsonParts.{scalar_of};
+ghost use Rattle.role_model.specs.JsonFilters.{names_session, session_variable, constant, operand_by};
+ghost use Rattle.role_model.specs.JsonFilters.{operand_of, item_of, items_of, op_named, operator_of, operators_of};
+ghost use Rattle.role_model.specs.JsonFilters.{column_number, condition_on, column_condition, pair_of, filter_of};
+ghost use Rattle.role_model.specs.JsonFilters.{filters_of, filters_of_items, pairs_of, of_each, of_each_member};
+ghost use Rattle.role_model.specs.JsonFilters.{slot_of, with_text, mentions, mentions_of_items, mentions_of_members};
 
-use crate::names::Names;
-use data_model::Column;
-use role_model::{Filter, FilterList, Items, Op, Operand, OperandList, StrList};
+use data_model::{Column, read_scalar};
+use name_set::NameSet;
+use plan_model::{Filter, FilterList, Items, Op, Operand, OperandList, StrList};
 use scalar_val::{Kind, NoMemory, ReadFault, Str, Val, fit_scalar};
 use serde_json::{Map, Value};
 use sqlite_items::Boxed;
@@ -37,20 +44,6 @@ fn session_name_of(alloc: Global, value: &Value) -> Result<Option<Str>, NoMemory
     }
 }
 
-fn read_scalar(alloc: Global, value: &Value) -> Result<Option<Val>, NoMemory>
-    ensures { IfOk result (λ o. o ≡ scalar_of (view value.now)) }
-{
-    match value {
-        Value::Bool(told) => Ok(Some(Val::Bool(*told))),
-        Value::Number(number) => match number.as_i64() {
-            Some(number) => Ok(Some(Val::Big(number))),
-            None => Ok(None),
-        },
-        Value::String(text) => Ok(Some(Val::Text(Str::of(alloc, text.as_str())?))),
-        _ => Ok(None),
-    }
-}
-
 fn fit(alloc: Global, kind: Kind, scalar: &Val) -> Result<Option<Val>, NoMemory>
     ensures { IfOk result (λ o. o ≡ fitted kind scalar.now) }
 {
@@ -73,38 +66,36 @@ fn read_constant(alloc: Global, kind: Kind, value: &Value) -> Result<Option<Oper
     }
 }
 
-/// A place as a number of 32 bits. No list of metadata is longer, since its text has at most 1,048,576 bytes.
-pub fn number(at: Option<usize>) -> Result<u32, NoMemory>
-    ensures { IfOk result (λ n. n ≡ unwrap_or at 0) }
+#[tactic(auto, using(crate::proofs::Numbers::place_within))]
+fn place_in(names: &NameSet, name: &str) -> Option<usize>
+    ensures value { result ≡ position (bytes_eq name.now) names.now }
+    ensures bound { IfSome result (λ at. at < length names.now) }
 {
-    match at {
-        Some(at) => {
-            if at > u32::MAX as usize {
-                return Err(NoMemory);
-            }
-            Ok(at as u32)
-        }
-        None => Ok(0),
-    }
+    names.place(name)
 }
 
 /// The slot of a session variable, its first place among the names.
-fn slot_in(names: &Names, name: &str) -> Result<u32, NoMemory>
-    ensures { IfOk result (λ n. n ≡ slot_of names.now name.now) }
+fn slot_in(names: &NameSet, name: &str) -> u32
+    requires slots { length names.now ≤ 4294967296 }
+    ensures { result ≡ slot_of names.now name.now }
 {
-    number(names.place(name))
+    match place_in(names, name) {
+        Some(at) => at as u32,
+        None => 0,
+    }
 }
 
 fn read_operand(
     alloc: Global,
-    names: &Names,
+    names: &NameSet,
     kind: Kind,
     value: &Value,
 ) -> Result<Option<Operand>, NoMemory>
+    requires slots { length names.now ≤ 4294967296 }
     ensures { IfOk result (λ o. o ≡ operand_of names.now kind (view value.now)) }
 {
     match session_name_of(alloc, value)? {
-        Some(name) => Ok(Some(Operand::Sess(slot_in(names, name.as_str())?))),
+        Some(name) => Ok(Some(Operand::Sess(slot_in(names, name.as_str())))),
         None => read_constant(alloc, kind, value),
     }
 }
@@ -176,12 +167,13 @@ fn null_test(column: u32, value: &Value) -> Option<Filter>
 
 fn read_comparison(
     alloc: Global,
-    names: &Names,
+    names: &NameSet,
     column: u32,
     kind: Kind,
     name: &str,
     value: &Value,
 ) -> Result<Option<Filter>, NoMemory>
+    requires slots { length names.now ≤ 4294967296 }
     ensures { IfOk result (λ o. o ≡ option_and_then (λ op. option_map (Filter.Cmp column op) (operand_of names.now kind (view value.now))) (op_named name.now)) }
 {
     let Some(op) = op_of(name) else {
@@ -200,12 +192,13 @@ fn read_comparison(
 #[tactic(auto, unfolding(role_model::specs::JsonFilters::operator_of))]
 fn read_operator(
     alloc: Global,
-    names: &Names,
+    names: &NameSet,
     column: u32,
     kind: Kind,
     name: &str,
     value: &Value,
 ) -> Result<Option<Filter>, NoMemory>
+    requires slots { length names.now ≤ 4294967296 }
     ensures { IfOk result (λ o. o ≡ operator_of names.now column kind name.now (view value.now)) }
 {
     match name {
@@ -218,11 +211,12 @@ fn read_operator(
 
 fn read_operators(
     alloc: Global,
-    names: &Names,
+    names: &NameSet,
     column: u32,
     kind: Kind,
     value: &Value,
 ) -> Result<Option<Filter>, NoMemory>
+    requires slots { length names.now ≤ 4294967296 }
     ensures { IfOk result (λ o. o ≡ operators_of names.now column kind (view value.now)) }
 {
     let Some(map) = value.as_object() else {
@@ -245,11 +239,12 @@ fn push_filter(parts: &mut FilterList, part: Filter) -> Result<(), NoMemory>
 
 fn read_each_operator(
     alloc: Global,
-    names: &Names,
+    names: &NameSet,
     column: u32,
     kind: Kind,
     map: &Map<String, Value>,
 ) -> Result<Option<FilterList>, NoMemory>
+    requires slots { length names.now ≤ 4294967296 }
     ensures { IfOk result (λ o. o ≡ of_each_member (operator_of names.now column kind) (members_view map.now.entries)) }
 {
     let mut parts = FilterList::new(alloc);
@@ -262,30 +257,43 @@ fn read_each_operator(
     Ok(Some(parts))
 }
 
-/// The number of a column by its name.
-pub fn column_place(columns: &[Column], name: &str) -> Option<usize>
-    ensures { result ≡ column_number columns.now name.now }
+fn column_place(columns: &[Column], name: &str) -> Option<usize>
+    ensures value { result ≡ column_number columns.now name.now }
+    ensures bound { IfSome result (λ at. at < length columns.now) }
 {
     columns
         .iter()
         .position(|column| name == column.name.as_str())
 }
 
+/// The number of the column of a name, from 0, and 0 where there is none of that name.
+pub fn number_of_column(columns: &[Column], name: &str) -> u32
+    requires narrow { length columns.now ≤ 64 }
+    ensures { result ≡ unwrap_or (column_number columns.now name.now) 0 }
+{
+    match column_place(columns, name) {
+        Some(at) => at as u32,
+        None => 0,
+    }
+}
+
 #[tactic(auto, unfolding(role_model::specs::JsonFilters::column_condition))]
 fn read_column_condition(
     alloc: Global,
     columns: &[Column],
-    names: &Names,
+    names: &NameSet,
     name: &str,
     value: &Value,
 ) -> Result<Option<Filter>, NoMemory>
+    requires narrow { length columns.now ≤ 64 }
+    requires slots { length names.now ≤ 4294967296 }
     ensures { IfOk result (λ o. o ≡ column_condition columns.now names.now name.now (view value.now)) }
 {
     let Some(at) = column_place(columns, name) else {
         return Ok(None);
     };
     match columns.get(at) {
-        Some(column) => read_operators(alloc, names, number(Some(at))?, column.kind, value),
+        Some(column) => read_operators(alloc, names, at as u32, column.kind, value),
         None => Ok(None),
     }
 }
@@ -317,15 +325,17 @@ fn not_of(alloc: Global, part: Option<Filter>) -> Result<Option<Filter>, NoMemor
     }
 }
 
-/// The filter that a JSON value is, over the columns of its table and with the slots of these session variables; `None`
-/// where it is none.
+/// The filter that a JSON value is, over the at most 64 columns of its table and with the slots of these session
+/// variables; `None` where it is none. `NoMemory` where memory is refused.
 #[cycle(filters)]
 pub fn read_filter(
     alloc: Global,
     columns: &[Column],
-    names: &Names,
+    names: &NameSet,
     value: &Value,
 ) -> Result<Option<Filter>, NoMemory>
+    requires narrow { length columns.now ≤ 64 }
+    requires slots { length names.now ≤ 4294967296 }
     ensures { IfOk result (λ o. o ≡ filter_of columns.now names.now (view value.now)) }
 {
     match value {
@@ -338,9 +348,11 @@ pub fn read_filter(
 fn read_filters(
     alloc: Global,
     columns: &[Column],
-    names: &Names,
+    names: &NameSet,
     value: &Value,
 ) -> Result<Option<FilterList>, NoMemory>
+    requires narrow { length columns.now ≤ 64 }
+    requires slots { length names.now ≤ 4294967296 }
     ensures { IfOk result (λ o. o ≡ filters_of columns.now names.now (view value.now)) }
 {
     match value {
@@ -353,9 +365,11 @@ fn read_filters(
 fn read_each_filter(
     alloc: Global,
     columns: &[Column],
-    names: &Names,
+    names: &NameSet,
     values: &Vec<Value>,
 ) -> Result<Option<FilterList>, NoMemory>
+    requires narrow { length columns.now ≤ 64 }
+    requires slots { length names.now ≤ 4294967296 }
     ensures { IfOk result (λ o. o ≡ filters_of_items columns.now names.now (items_view values.now.items)) }
 {
     let mut parts = FilterList::new(alloc);
@@ -372,9 +386,11 @@ fn read_each_filter(
 fn read_pairs(
     alloc: Global,
     columns: &[Column],
-    names: &Names,
+    names: &NameSet,
     map: &Map<String, Value>,
 ) -> Result<Option<FilterList>, NoMemory>
+    requires narrow { length columns.now ≤ 64 }
+    requires slots { length names.now ≤ 4294967296 }
     ensures { IfOk result (λ o. o ≡ pairs_of columns.now names.now (members_view map.now.entries)) }
 {
     let mut parts = FilterList::new(alloc);
@@ -392,10 +408,12 @@ fn read_pairs(
 fn read_pair(
     alloc: Global,
     columns: &[Column],
-    names: &Names,
+    names: &NameSet,
     name: &str,
     value: &Value,
 ) -> Result<Option<Filter>, NoMemory>
+    requires narrow { length columns.now ≤ 64 }
+    requires slots { length names.now ≤ 4294967296 }
     ensures { IfOk result (λ o. o ≡ pair_of name.now (filter_of columns.now names.now (view value.now)) (filters_of columns.now names.now (view value.now)) (column_condition columns.now names.now name.now (view value.now))) }
 {
     match name {

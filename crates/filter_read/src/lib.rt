@@ -3,8 +3,6 @@
 
 mod json_filter;
 mod mentions;
-mod names;
 
-pub use json_filter::{column_place, number, read_filter};
+pub use json_filter::{number_of_column, read_filter};
 pub use mentions::push_mentions;
-pub use names::Names;

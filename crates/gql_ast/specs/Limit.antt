@@ -1,5 +1,22 @@
 -- Where the nesting of brackets goes past its limit, and what parsing gives; both limits are this project's own.
-use Rattle.std.specs.Prelude.{◌≡◌, ℕ, suc, if◌then◌else◌, nat_lt, List, [], ◌∷◌, length, slice_index, unwrap_or, Option, Result, Err, IfOk, MatchResult}
+use Rattle.std.specs.Prelude.{
+  ◌≡◌,
+  ℕ,
+  suc,
+  if◌then◌else◌,
+  nat_lt,
+  List,
+  [],
+  ◌∷◌,
+  length,
+  slice_index,
+  unwrap_or,
+  Option,
+  Result,
+  Err,
+  IfOk,
+  MatchResult,
+}
 use Rattle.request_model.specs.declared.document.Document.{Document}
 use Rattle.request_model.specs.Strings.{Text}
 use Rattle.request_model.specs.Grammar.{Lexeme}

@@ -104,7 +104,8 @@ impl<'a> Tokens<'a> {
 
     /// Takes the `$` of a variable, if one may stand here and comes next.
     pub fn eat_dollar(&mut self, constant: bool) -> bool
-        ensures { MatchBool result ((constant ≡ false) × (self.old ≡ Punct 36 ∷ self.new)) ((self.new ≡ self.old) × (constant ≡ false → NotAt 36 self.old)) }
+        ensures { MatchBool result ((constant ≡ false) × (self.old ≡ Punct 36 ∷ self.new))
+            ((self.new ≡ self.old) × (constant ≡ false → NotAt 36 self.old)) }
     {
         if constant {
             return false;
@@ -127,7 +128,8 @@ impl<'a> Tokens<'a> {
 
     /// Takes the name, if one comes next.
     pub fn name(&mut self) -> Option<&'a str>
-        ensures { MatchOption result ((self.new ≡ self.old) × NotName self.old) (λ n. self.old ≡ Name n.now ∷ self.new) }
+        ensures { MatchOption result ((self.new ≡ self.old) × NotName self.old)
+            (λ n. self.old ≡ Name n.now ∷ self.new) }
     {
         if let [first, rest @ ..] = self.rest
             && let TokenKind::Name = first.kind
@@ -140,7 +142,8 @@ impl<'a> Tokens<'a> {
 
     /// Whether this name comes next.
     pub fn is_word(&self, word: &str) -> bool
-        ensures { MatchBool result ((more : List Lexeme) × (self.now ≡ Name word.now ∷ more)) (NotWord word.now self.now) }
+        ensures { MatchBool result ((more : List Lexeme) × (self.now ≡ Name word.now ∷ more))
+            (NotWord word.now self.now) }
     {
         if let [first, ..] = self.rest
             && let TokenKind::Name = first.kind
@@ -152,7 +155,8 @@ impl<'a> Tokens<'a> {
 
     /// Takes this name, if it comes next.
     pub fn eat_word(&mut self, word: &str) -> bool
-        ensures { MatchBool result (self.old ≡ Name word.now ∷ self.new) ((self.new ≡ self.old) × NotWord word.now self.old) }
+        ensures { MatchBool result (self.old ≡ Name word.now ∷ self.new)
+            ((self.new ≡ self.old) × NotWord word.now self.old) }
     {
         if !self.is_word(word) {
             return false;
@@ -176,7 +180,8 @@ impl<'a> Tokens<'a> {
 
     /// Takes the string, if one comes next, and answers what stands between its quotes.
     pub fn quoted(&mut self) -> Option<&'a str>
-        ensures { MatchOption result ((self.new ≡ self.old) × NotQuoted self.old) (λ n. self.old ≡ Quoted n.now ∷ self.new) }
+        ensures { MatchOption result ((self.new ≡ self.old) × NotQuoted self.old)
+            (λ n. self.old ≡ Quoted n.now ∷ self.new) }
     {
         if let [first, rest @ ..] = self.rest
             && let TokenKind::Text = first.kind

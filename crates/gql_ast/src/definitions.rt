@@ -29,7 +29,8 @@ fn maybe_name(alloc: Global, tokens: &mut Tokens<'_>) -> Result<Option<Str>, NoM
 
 /// Takes the word of an operation, if one comes next.
 fn operation_word(tokens: &mut Tokens<'_>) -> Option<OpWord>
-    ensures some { MatchOption result ((w : Text) (o : OpWord) → IsOpWord w o → NotWord w tokens.old) (λ o. (w : Text) × IsOpWord w o × (tokens.old ≡ Name w ∷ tokens.new)) }
+    ensures some { MatchOption result ((w : Text) (o : OpWord) → IsOpWord w o → NotWord w tokens.old)
+        (λ o. (w : Text) × IsOpWord w o × (tokens.old ≡ Name w ∷ tokens.new)) }
     ensures none { result ≡ None → tokens.new ≡ tokens.old }
 {
     if tokens.eat_word("query") {
@@ -46,8 +47,10 @@ fn operation_word(tokens: &mut Tokens<'_>) -> Option<OpWord>
 
 /// Name? VarDefs? Directives? SelectionSet, as they stand after the word of an operation
 fn operation(alloc: Global, tokens: &mut Tokens<'_>, word: OpWord) -> Result<Definition, Stop>
-    ensures took { IfOk result (λ x. (w : Text) → IsOpWord w word → Took (Behind (Name w) IsDefinition) Anything tokens.old x tokens.new) }
-    ensures stops { result ≡ Err Stop.Syntax → (w : Text) → IsOpWord w word → Stops (Behind (Name w) IsDefinition) Anything tokens.old tokens.new }
+    ensures took { IfOk result (λ x. (w : Text) → IsOpWord w word →
+        Took (Behind (Name w) IsDefinition) Anything tokens.old x tokens.new) }
+    ensures stops { result ≡ Err Stop.Syntax → (w : Text) → IsOpWord w word →
+        Stops (Behind (Name w) IsDefinition) Anything tokens.old tokens.new }
     ensures shrinks { OnOk result (length tokens.new < length tokens.old) }
 {
     let name = maybe_name(alloc, tokens)?;
@@ -79,8 +82,10 @@ fn fragment_name(alloc: Global, tokens: &mut Tokens<'_>) -> Result<Str, Stop>
 
 /// FragName on Name Directives? SelectionSet, as they stand after `fragment`
 fn fragment(alloc: Global, tokens: &mut Tokens<'_>) -> Result<Definition, Stop>
-    ensures took { IfOk result (λ x. Took (Behind (Name (codes "fragment")) IsDefinition) Anything tokens.old x tokens.new) }
-    ensures stops { result ≡ Err Stop.Syntax → Stops (Behind (Name (codes "fragment")) IsDefinition) Anything tokens.old tokens.new }
+    ensures took { IfOk result (λ x. Took (Behind (Name (codes "fragment")) IsDefinition) Anything tokens.old x
+        tokens.new) }
+    ensures stops { result ≡ Err Stop.Syntax →
+        Stops (Behind (Name (codes "fragment")) IsDefinition) Anything tokens.old tokens.new }
     ensures shrinks { OnOk result (length tokens.new < length tokens.old) }
 {
     let called = fragment_name(alloc, tokens)?;

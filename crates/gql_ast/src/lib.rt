@@ -6,8 +6,6 @@ mod definitions;
 mod limit;
 mod lists;
 mod selections;
-#[cfg(test)]
-mod tests;
 mod values;
 mod variables;
 mod whole;

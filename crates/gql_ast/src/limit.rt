@@ -10,8 +10,11 @@ use request_model::{Token, TokenKind};
 /// How many brackets are open after the token, unless it opens a 65th level.
 fn next_level(level: usize, kind: TokenKind) -> Option<usize>
     requires { level ≤ 64 }
-    ensures none { IfNone result ((text : Text) (i j : ℕ) → opens_65th level (lexeme text (record { kind = kind; start = i; end = j })) ≡ true) }
-    ensures some { IfSome result (λ next. (text : Text) (i j : ℕ) → (opens_65th level (lexeme text (record { kind = kind; start = i; end = j })) ≡ false) × (next ≡ level_after level (lexeme text (record { kind = kind; start = i; end = j })))) }
+    ensures none { IfNone result ((text : Text) (i j : ℕ) →
+        opens_65th level (lexeme text (record { kind = kind; start = i; end = j })) ≡ true) }
+    ensures some { IfSome result (λ next. (text : Text) (i j : ℕ) →
+        (opens_65th level (lexeme text (record { kind = kind; start = i; end = j })) ≡ false)
+        × (next ≡ level_after level (lexeme text (record { kind = kind; start = i; end = j })))) }
     ensures small { IfSome result (λ next. next ≤ 64) }
 {
     let TokenKind::Punct(b) = kind else {

@@ -1,7 +1,16 @@
 //! Selection sets.
 
 ghost use Rattle.std.specs.Prelude.{◌≡◌, ◌<◌, ◌≤◌, length, IfOk, OnOk, false, codes};
-ghost use Rattle.request_model.specs.Grammar.{Spread, Name, Directives, IsFieldName, IsSelection, IsSelections, IsSet, MaybeSet};
+ghost use Rattle.request_model.specs.Grammar.{
+  Spread,
+  Name,
+  Directives,
+  IsFieldName,
+  IsSelection,
+  IsSelections,
+  IsSet,
+  MaybeSet,
+};
 ghost use Rattle.gql_ast.specs.Fronts.{NotAt};
 ghost use Rattle.gql_ast.specs.Reading.{Took, Stops, Closed, Then, Behind};
 ghost use Rattle.gql_ast.specs.Follow.{Anything, EndsSelection};
@@ -135,8 +144,10 @@ fn after_dots(alloc: Global, tokens: &mut Tokens<'_>) -> Result<Selection, Stop>
 /// Name Directives? SelectionSet, as they stand after `... on`
 #[cycle(selection)]
 fn on_type(alloc: Global, tokens: &mut Tokens<'_>) -> Result<Selection, Stop>
-    ensures took { IfOk result (λ x. Took (Behind (Name (codes "on")) (Behind Spread IsSelection)) EndsSelection tokens.old x tokens.new) }
-    ensures stops { result ≡ Err Stop.Syntax → Stops (Behind (Name (codes "on")) (Behind Spread IsSelection)) EndsSelection tokens.old tokens.new }
+    ensures took { IfOk result (λ x. Took (Behind (Name (codes "on")) (Behind Spread IsSelection)) EndsSelection
+        tokens.old x tokens.new) }
+    ensures stops { result ≡ Err Stop.Syntax →
+        Stops (Behind (Name (codes "on")) (Behind Spread IsSelection)) EndsSelection tokens.old tokens.new }
     ensures shrinks { OnOk result (length tokens.new < length tokens.old) }
 {
     let on = name(alloc, tokens)?;

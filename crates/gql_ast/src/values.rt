@@ -1,7 +1,15 @@
 //! Values, arguments and directives.
 
 ghost use Rattle.std.specs.Prelude.{◌≡◌, ◌<◌, ◌≤◌, length, Bool, IfOk, OnOk};
-ghost use Rattle.request_model.specs.Grammar.{IsValue, IsValues, IsPair, IsPairs, MaybeArguments, IsDirective, Directives};
+ghost use Rattle.request_model.specs.Grammar.{
+  IsValue,
+  IsValues,
+  IsPair,
+  IsPairs,
+  MaybeArguments,
+  IsDirective,
+  Directives,
+};
 ghost use Rattle.gql_ast.specs.Fronts.{NotAt, NotName};
 ghost use Rattle.gql_ast.specs.Reading.{Took, Stops, Closed, IsName, IsPunct, IsWord};
 ghost use Rattle.gql_ast.specs.Follow.{Anything, EndsDirectives};

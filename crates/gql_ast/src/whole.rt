@@ -21,7 +21,7 @@ pub const LENGTH_LIMIT: usize = 65536;
 pub enum ParseFault {
     /// The text is none: `at` is the byte at which its first fault starts, or 65,536 where it has more bytes.
     Syntax { at: usize },
-    /// Memory was refused.
+    /// Out of memory.
     NoMemory,
 }
 
@@ -72,13 +72,13 @@ fn parse_run(
     }
 }
 
-/// The document that the text is, where `tokens` is the run of its lexemes: the grammar is that of GraphQL October 2021,
-/// section 2, with brackets nested at most 64 deep and at most 65,536 bytes.
+/// The document that the text is, where `tokens` is the run of its lexemes: the grammar is that of GraphQL October
+/// 2021, section 2, with brackets nested at most 64 deep and at most 65,536 bytes.
 ///
 /// `Syntax` comes exactly where the text is no document. Its place is the start of the first lexeme, good or bad, such
 /// that the lexemes before it begin some document and with it they don't; a bracket that opens a 65th level is at fault
-/// itself, and every other lexeme is judged by the grammar alone. Where all lexemes begin some document and are none, it
-/// is the length of the text. Where the text is too long, it is 65,536.
+/// itself, and every other lexeme is judged by the grammar alone. Where all lexemes begin some document and are none,
+/// it is the length of the text. Where the text is too long, it is 65,536.
 pub fn parse(alloc: Global, text: &str, tokens: &TokenRun) -> Result<Document, ParseFault>
     requires { tokens.now ≡ lex.lexemes text.now }
     ensures derived { IfOk result (λ d. Reads text.now d) }

@@ -1,2 +1,1 @@
 pub mod OrderRules
-pub mod StableRules

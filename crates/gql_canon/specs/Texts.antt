@@ -3,7 +3,7 @@ use Rattle.std.specs.Prelude.{codes}
 use Rattle.request_model.specs.declared.document.GPair.{GPair}
 use Rattle.request_model.specs.declared.document.GValue.TheViews.{out-GPair}
 use Rattle.request_model.specs.Strings.{Text}
-use Rattle.request_model.specs.Canonical.{named_text}
+use Rattle.scalar_val.specs.Joined.{named_text}
 
 -- a pair of a cursor's initial value
 abbrev pub initial_pair : GPair → Text

@@ -1,17 +1,26 @@
 //! The canonical texts of flat selections.
 
 ghost use Rattle.std.specs.Prelude.{◌≡◌, ◌++◌, map, IfOk, OnOk, string_bytes};
-ghost use Rattle.request_model.specs.Canonical.{parted, field_text, canonical, argument_text, in_parentheses, named_text, set_text, word_text};
+ghost use Rattle.scalar_val.specs.Joined.{parted, named_text};
+ghost use Rattle.request_model.specs.Canonical.{
+  field_text,
+  canonical,
+  argument_text,
+  in_parentheses,
+  set_text,
+  word_text,
+};
 ghost use Rattle.request_model.specs.Selection.{by_name};
 
 use crate::ordered::ordered_by_name;
-use crate::values_text::{put, put_arguments};
+use crate::values_text::{put, put_arguments, put_between};
 use request_model::{Flat, FlatField, GPair, Word};
 use scalar_val::{NoMemory, Str};
 use std::alloc::Global;
 
 fn put_all_arguments(alloc: Global, args: &[GPair], out: &mut String) -> Result<(), NoMemory>
-    ensures { OnOk result (string_bytes out.new ≡ string_bytes out.old ++ in_parentheses (map argument_text (by_name args.now))) }
+    ensures { OnOk result (string_bytes out.new
+        ≡ string_bytes out.old ++ in_parentheses (map argument_text (by_name args.now))) }
 {
     let ordered = ordered_by_name(alloc, args)?;
     if ordered.is_empty() {
@@ -62,11 +71,7 @@ fn put_fields(alloc: Global, fields: &[FlatField], out: &mut String) -> Result<(
 {
     let mut first = true;
     for field in fields {
-        if first {
-            first = false;
-        } else {
-            put(out, " ")?;
-        }
+        put_between(&mut first, " ", out)?;
         put_field(alloc, field, out)?;
     }
     Ok(())

@@ -3,7 +3,7 @@ ghost use Rattle.std.specs.Ordering.{nat_cmp, is_le};
 ghost use Rattle.std.specs.Cmp.Lexicographic.{slice_cmp};
 ghost use Rattle.request_model.specs.declared.document.GValue.TheViews.{out-GPair};
 ghost use Rattle.request_model.specs.Selection.{by_name};
-ghost use Rattle.request_model.specs.Ordered.{placed};
+ghost use Rattle.scalar_val.specs.Ordered.{placed};
 ghost use Rattle.gql_canon.specs.Names.{compare_names};
 
 use crate::same::same_refs;

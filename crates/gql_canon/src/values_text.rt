@@ -1,8 +1,17 @@
 //! The canonical texts of values and arguments.
 
-ghost use Rattle.std.specs.Prelude.{◌≡◌, ◌++◌, map, OnOk, string_bytes};
+ghost use Rattle.std.specs.Prelude.{◌≡◌, ◌++◌, [], map, if◌then◌else◌, false, OnOk, string_bytes};
 ghost use Rattle.json.specs.Print.{quoted};
-ghost use Rattle.request_model.specs.Canonical.{value_text, pair_text, initial_text, cursor_pair, cursor_object, cursor_text, argument_text, in_brackets, in_braces, parted};
+ghost use Rattle.request_model.specs.Canonical.{
+  value_text,
+  pair_text,
+  initial_text,
+  cursor_pair,
+  cursor_object,
+  cursor_text,
+  argument_text,
+};
+ghost use Rattle.scalar_val.specs.Joined.{in_brackets, in_braces, parted};
 ghost use Rattle.gql_canon.specs.Texts.{initial_pair};
 
 use request_model::{GPair, GValue};
@@ -16,15 +25,27 @@ pub fn put(out: &mut String, text: &str) -> Result<(), NoMemory>
     Ok(())
 }
 
+/// Puts a separator, except in front of the first item.
+pub fn put_between(first: &mut bool, separator: &str, out: &mut String) -> Result<(), NoMemory>
+    ensures later { OnOk result (first.new ≡ false) }
+    ensures put { OnOk result (string_bytes out.new ≡ string_bytes out.old
+        ++ (if first.old then [] else separator.now)) }
+{
+    if *first {
+        *first = false;
+        return Ok(());
+    }
+    put(out, separator)
+}
+
+/// Puts a string in quotes. A text in quotes is UTF-8, so the bytes of the text are taken and given back with no check.
 fn put_string(alloc: Global, text: &str, out: &mut String) -> Result<(), NoMemory>
     ensures { OnOk result (string_bytes out.new ≡ string_bytes out.old ++ quoted text.now) }
 {
-    let mut bytes = Vec::new(alloc);
+    let mut bytes = std::mem::replace(out, String::new(alloc)).into_bytes();
     write_quoted(text, &mut bytes)?;
-    match String::from_utf8(bytes) {
-        Ok(written) => put(out, written.as_str()),
-        Err(_never) => Err(NoMemory),
-    }
+    *out = unsafe { String::from_utf8_unchecked(bytes) };
+    Ok(())
 }
 
 #[cycle(value)]
@@ -61,11 +82,7 @@ fn put_values(alloc: Global, values: &[GValue], out: &mut String) -> Result<(), 
 {
     let mut first = true;
     for value in values {
-        if first {
-            first = false;
-        } else {
-            put(out, ",")?;
-        }
+        put_between(&mut first, ",", out)?;
         put_value(alloc, value, out)?;
     }
     Ok(())
@@ -86,11 +103,7 @@ fn put_pairs(alloc: Global, pairs: &[GPair], out: &mut String) -> Result<(), NoM
 {
     let mut first = true;
     for pair in pairs {
-        if first {
-            first = false;
-        } else {
-            put(out, ",")?;
-        }
+        put_between(&mut first, ",", out)?;
         put_pair(alloc, pair, out)?;
     }
     Ok(())
@@ -101,11 +114,7 @@ fn put_initial_pairs(pairs: &[GPair], out: &mut String) -> Result<(), NoMemory>
 {
     let mut first = true;
     for pair in pairs {
-        if first {
-            first = false;
-        } else {
-            put(out, ",")?;
-        }
+        put_between(&mut first, ",", out)?;
         put(out, pair.name.as_str())?;
         put(out, ":_")?;
     }
@@ -139,11 +148,7 @@ fn put_cursor_pairs(alloc: Global, pairs: &[GPair], out: &mut String) -> Result<
 {
     let mut first = true;
     for pair in pairs {
-        if first {
-            first = false;
-        } else {
-            put(out, ",")?;
-        }
+        put_between(&mut first, ",", out)?;
         put_cursor_pair(alloc, pair, out)?;
     }
     Ok(())
@@ -165,11 +170,7 @@ fn put_cursor_objects(alloc: Global, values: &[GValue], out: &mut String) -> Res
 {
     let mut first = true;
     for value in values {
-        if first {
-            first = false;
-        } else {
-            put(out, ",")?;
-        }
+        put_between(&mut first, ",", out)?;
         put_cursor_object(alloc, value, out)?;
     }
     Ok(())
@@ -198,15 +199,12 @@ fn put_argument(alloc: Global, pair: &GPair, out: &mut String) -> Result<(), NoM
 }
 
 pub fn put_arguments(alloc: Global, pairs: &[&GPair], out: &mut String) -> Result<(), NoMemory>
-    ensures { OnOk result (string_bytes out.new ≡ string_bytes out.old ++ parted 44 (map argument_text (map (λ p. p.now) pairs.now))) }
+    ensures { OnOk result (string_bytes out.new
+        ≡ string_bytes out.old ++ parted 44 (map argument_text (map (λ p. p.now) pairs.now))) }
 {
     let mut first = true;
     for pair in pairs {
-        if first {
-            first = false;
-        } else {
-            put(out, ",")?;
-        }
+        put_between(&mut first, ",", out)?;
         put_argument(alloc, pair, out)?;
     }
     Ok(())

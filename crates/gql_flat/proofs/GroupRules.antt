@@ -4,7 +4,7 @@ use Rattle.std.specs.Prelude.{option_map}
 use Rattle.std.specs.Str.{bytes_eq}
 use Rattle.request_model.specs.Strings.{Text}
 use Rattle.request_model.specs.Selection.{Selected, Group, grouped}
-use Rattle.gql_scope.specs.Places.{first_at}
+use Rattle.name_set.specs.Names.{first_at}
 use Rattle.gql_flat.specs.Collecting.{keys_of}
 
 abbrev pub joined : Group → Selected → Group

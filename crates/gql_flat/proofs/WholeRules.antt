@@ -8,7 +8,7 @@ use Rattle.request_model.specs.declared.document.Selection.{Selection}
 use Rattle.request_model.specs.declared.flat.FlatField.{FlatField}
 use Rattle.request_model.specs.declared.flat.FlatFault.{FlatFault}
 use Rattle.request_model.specs.declared.flat.FlatFault.TheVariants as fault
-use Rattle.request_model.specs.declared.flat.Word.{Word}
+use Rattle.scalar_val.specs.declared.word.Word.{Word}
 use Rattle.request_model.specs.declared.flat.Flat.{Flat}
 use Rattle.request_model.specs.Strings.{Text}
 use Rattle.request_model.specs.declared.document.VarDef.{VarDef}
@@ -19,7 +19,7 @@ use Rattle.gql_flat.specs.Fields.{AreFields, AreTooLarge, Conflicts, field_down,
 use Rattle.gql_scope.specs.Refusals.{Refuses, refusals}
 use Rattle.gql_flat.specs.Whole.{IsWhole, OperationFlattens}
 use Rattle.gql_flat.proofs.FieldRules.{conflicts_are}
-use Rattle.gql_scope.proofs.TruthRules.{or_left, or_right}
+use Rattle.std.proofs.lemmas.Bool.{or_left, or_right, or_from}
 
 -- ---- limits
 
@@ -29,12 +29,8 @@ not_above m n h = grind (arith, nat_tests)
 above : (m n : ℕ) → n < m → nat_lt n m ≡ true
 above m n h = grind (arith, nat_tests)
 
-none_of : (a b : Bool) → a ≡ false → b ≡ false → (a || b) ≡ false
-none_of true b e f = cc
-none_of false b e f = f
-
 pub small : (fields : List FlatField) → levels fields ≤ most_levels → size fields ≤ most_fields → is_large fields ≡ false
-small fields l n = none_of _ _ (not_above (levels fields) most_levels l) (not_above (size fields) most_fields n)
+small fields l n = or_from _ _ (not_above (levels fields) most_levels l) (not_above (size fields) most_fields n)
 
 large_by : (fields : List FlatField) → (most_levels < levels fields) ⊎ (most_fields < 0 + size fields) → is_large fields ≡ true
 large_by fields (inl h) = or_left _ _ (above (levels fields) most_levels h)

@@ -1,10 +1,24 @@
 -- Selections that wait to be collected, what they add, and a number that falls while they are collected.
-use Rattle.std.specs.Prelude.{ℕ, zero, suc, ◌+◌, List, [], ◌∷◌, map, Option, Some, None}
+use Rattle.std.specs.Prelude.{◌≡◌, ℕ, zero, suc, ◌+◌, ◌<◌, List, [], ◌∷◌, map, Option, Some, None}
+use Rattle.request_model.specs.declared.document.Directive.{Directive}
 use Rattle.request_model.specs.declared.document.Selection.{Selection}
 use Rattle.request_model.specs.declared.document.Selection.TheOpen.{Selection-F}
 use Rattle.request_model.specs.declared.document.Selection.TheFolds.{fold-Selection}
 use Rattle.request_model.specs.Strings.{Text}
-use Rattle.request_model.specs.Selection.{Scope, Fragment, fragment_named, Group, Collecting, collecting, spreading, sum_of}
+use Rattle.request_model.specs.Selection.{
+  Scope,
+  Fragment,
+  fragment_named,
+  Group,
+  Collected,
+  Collecting,
+  collecting,
+  spreading,
+  noted_if,
+  unless_dropped,
+  is_dropped,
+  sum_of,
+}
 
 abbrev pub keys_of : List Group → List Text
 keys_of gs = map (λ (g : Group). g.first.key) gs
@@ -27,6 +41,17 @@ module _ (s : Scope) where
   abbrev pub of_stack : List Frame → Collecting
   of_stack [] c = c
   of_stack (f ∷ fs) c = of_frame f (of_stack fs c)
+
+  -- what is collected and what waits after a step add together what the step adds, and then what waited before it
+  abbrev pub Adds : Collecting → List Frame → Collected → List Frame → Collected → Type 0
+  Adds step before c after found = of_stack after found ≡ of_stack before (step c)
+
+  abbrev pub unless : List Directive → Collecting → Collecting
+  unless ds = unless_dropped (is_dropped s ds)
+
+  -- what an inline fragment adds
+  abbrev pub entered : ℕ → Option Text → List Selection → Collecting
+  entered depth on set c = collecting s (spreading s depth) set (noted_if on c)
 
 -- ---- an upper bound of the turns that collecting takes
 
@@ -54,3 +79,7 @@ frame_weight fs f = 1 + weight_all (spread_weight fs f.depth) f.rest
 
 abbrev pub stack_weight : List Fragment → List Frame → ℕ
 stack_weight fs stack = sum_of (map (frame_weight fs) stack)
+
+-- the stack weighs less than before with so much more
+abbrev pub Falls : List Fragment → ℕ → List Frame → List Frame → Type 0
+Falls fs more before after = stack_weight fs after < stack_weight fs before + more

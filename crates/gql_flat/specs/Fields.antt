@@ -5,7 +5,21 @@ use Rattle.request_model.specs.declared.flat.FlatFault.{FlatFault}
 use Rattle.request_model.specs.declared.flat.FlatFault.TheVariants as fault
 use Rattle.request_model.specs.declared.flat.FlatField.{FlatField}
 use Rattle.request_model.specs.declared.flat.FlatField.TheViews.{roll-FlatField}
-use Rattle.request_model.specs.Selection.{Scope, Group, collected, inner_set, fields_of, has_inner, fields_down, size, levels, most_fields, Some_of, Differ, FieldsConflict}
+use Rattle.request_model.specs.Selection.{
+  Scope,
+  Group,
+  collected,
+  inner_set,
+  fields_of,
+  has_inner,
+  fields_down,
+  size,
+  levels,
+  most_fields,
+  Some_of,
+  Differ,
+  FieldsConflict,
+}
 use Rattle.gql_flat.specs.declared.fields.Tally.{Tally}
 
 -- the field of a group, with the fields in it down to so many levels
@@ -28,7 +42,8 @@ Conflicts s zero gs = ⊥
 Conflicts s (suc down) gs = Some_of (GroupConflicts s down) gs
 
 -- these are the fields of the groups; no level is too low, and they are counted
-pub record AreFields (s : Scope) (down : ℕ) (gs : List Group) (before after : Tally) (fields : List FlatField) : Type 0 where
+pub record AreFields (s : Scope) (down : ℕ) (gs : List Group) (before after : Tally) (fields : List FlatField) : Type
+    0 where
   pub are : fields ≡ map (field_down s down) gs
   pub counted : after.fields ≡ before.fields + size fields
   pub few : after.fields ≤ most_fields
@@ -37,7 +52,8 @@ pub record AreFields (s : Scope) (down : ℕ) (gs : List Group) (before after : 
 
 -- the groups have too many fields or levels
 abbrev pub AreTooLarge : Scope → ℕ → List Group → ℕ → Type 0
-AreTooLarge s down gs before = (down < levels (map (field_down s down) gs)) ⊎ (most_fields < before + size (map (field_down s down) gs))
+AreTooLarge s down gs before = (down < levels (map (field_down s down) gs))
+    ⊎ (most_fields < before + size (map (field_down s down) gs))
 
 -- the field of a group is counted, and whether one of its fields differs from the first
 pub record IsCounted (g : Group) (before after : Tally) : Type 0 where
@@ -45,6 +61,6 @@ pub record IsCounted (g : Group) (before after : Tally) : Type 0 where
   pub few : after.fields ≤ most_fields
   pub conflict : IsTrue after.conflict ↔ (IsTrue before.conflict ⊎ Some_of (Differ g.first) g.others)
 
--- a fault comes for want of memory, or since the selection is too large
+-- a fault comes when out of memory, or since the selection is too large
 abbrev pub FailsSo : FlatFault → Type 0 → Type 0
 FailsSo e P = (e ≡ fault.NoMemory) ⊎ ((e ≡ fault.TooLarge) × P)

@@ -7,8 +7,21 @@ use Rattle.request_model.specs.declared.document.Selection.{Selection}
 use Rattle.request_model.specs.declared.flat.Flat.{Flat}
 use Rattle.request_model.specs.declared.flat.FlatFault.{FlatFault}
 use Rattle.request_model.specs.declared.flat.FlatFault.TheVariants as fault
-use Rattle.request_model.specs.declared.flat.Word.{Word}
-use Rattle.request_model.specs.Selection.{Scope, Operation, collected, fields_seen, is_large, most_levels, FieldsConflict, HasFault, fault_order, IsFirst, served, flat_of}
+use Rattle.scalar_val.specs.declared.word.Word.{Word}
+use Rattle.request_model.specs.Selection.{
+  Scope,
+  Operation,
+  collected,
+  fields_seen,
+  is_large,
+  most_levels,
+  FieldsConflict,
+  HasFault,
+  fault_order,
+  IsFirst,
+  served,
+  flat_of,
+}
 use Rattle.gql_flat.specs.declared.flattening.Whole.{Whole}
 
 -- the conditions and the fields of a selection set, which is not too large
@@ -25,6 +38,7 @@ pub record IsFlat (d : Document) (values : Members) (o : Operation) (f : Flat) :
   pub served_as : served o.word ≡ Some word
   pub is : f ≡ flat_of d values o word
 
--- the flat selection of an operation, or its first fault, or want of memory
+-- the flat selection of an operation, or its first fault, or out of memory
 abbrev pub OperationFlattens : Document → Members → Operation → Result Flat FlatFault → Type 0
-OperationFlattens d values o r = MatchResult r (λ f. IsFlat d values o f) (λ e. (e ≡ fault.NoMemory) ⊎ IsFirst (HasFault d values o) fault_order e)
+OperationFlattens d values o r = MatchResult r (λ f. IsFlat d values o f)
+    (λ e. (e ≡ fault.NoMemory) ⊎ IsFirst (HasFault d values o) fault_order e)

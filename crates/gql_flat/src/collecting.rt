@@ -4,12 +4,23 @@ ghost use Rattle.std.specs.Prelude.{◌≡◌, ◌<◌, ◌+◌, ◌++◌, OnOk,
 ghost use Rattle.std.specs.List.{list_any, flat_map};
 ghost use Rattle.std.specs.Str.{bytes_eq};
 ghost use Rattle.request_model.specs.Selection as spec;
-ghost use Rattle.gql_scope.specs.Scopes.{scope_of};
-ghost use Rattle.gql_flat.specs.Collecting.{frames_of, of_frame, of_stack, weight_one, weight_all, spread_weight, frame_weight, stack_weight};
+ghost use Rattle.gql_flat.specs.Collecting.{
+  frames_of,
+  of_frame,
+  Adds,
+  unless,
+  entered,
+  Falls,
+  weight_one,
+  weight_all,
+  spread_weight,
+  frame_weight,
+};
 
 use crate::groups::Groups;
 pub use crate::groups::{Group, Selected};
-use gql_scope::{Fragment, Names, Scope};
+use gql_scope::{Fragment, Scope};
+use name_set::NameIndex;
 use request_model::{Directive, GPair, Selection};
 use scalar_val::{NoMemory, Str};
 use std::alloc::Global;
@@ -18,7 +29,7 @@ use std::marker::Model;
 /// What is collected of one object: the fragments that were spread, the type conditions that were met, and the fields.
 #[derive(Drop)]
 pub struct Object<'a> {
-    pub visited: Names<'a>,
+    pub visited: NameIndex<'a>,
     pub conditions: Vec<&'a Str>,
     pub groups: Groups<'a>,
 }
@@ -35,16 +46,21 @@ impl<'a> Model for Object<'a> {
 
     ghost coded = { Prim.hlevel (codes, gvalue.the_row.coded, gpair.the_row.coded, selection.the_row.coded) };
 
-    ghost view = { λ c. record { visited = c.visited; conditions = map (λ t. t.now) c.conditions.items; groups = c.groups } };
+    ghost view = { λ c. record {
+      visited = c.visited;
+      conditions = map (λ t. t.now) c.conditions.items;
+      groups = c.groups;
+    } };
 }
 
 /// Whether the fragment is met for the first time; then it is noted with its type condition.
 fn visit<'a>(fragment: &Fragment<'a>, found: &mut Object<'a>) -> Result<bool, NoMemory>
     ensures { IfOk result (λ first. MatchBool first
-        ((list_any (bytes_eq fragment.now.name) found.old.visited ≡ false) × (found.new ≡ spec.noted fragment.now.on (spec.with_visited fragment.now.name found.old)))
+        ((list_any (bytes_eq fragment.now.name) found.old.visited ≡ false)
+        × (found.new ≡ spec.noted fragment.now.on (spec.with_visited fragment.now.name found.old)))
         ((list_any (bytes_eq fragment.now.name) found.old.visited ≡ true) × (found.new ≡ found.old))) }
 {
-    if !found.visited.push_new(fragment.name)? {
+    if !found.visited.insert(fragment.name)? {
         return Ok(false);
     }
     found.conditions.push(fragment.on)?;
@@ -81,7 +97,8 @@ fn field_of<'a>(
     args: &'a [GPair],
     select: &'a [Selection],
 ) -> Selected<'a>
-    ensures { result ≡ record { key = spec.response_key alias.now name.now; name = name.now; args = args.now; select = select.now } }
+    ensures { result
+        ≡ record { key = spec.response_key alias.now name.now; name = name.now; args = args.now; select = select.now } }
 {
     Selected {
         key: response_key(alias, name),
@@ -98,7 +115,8 @@ fn collect_field<'a>(
     field: Selected<'a>,
     found: &mut Object<'a>,
 ) -> Result<(), NoMemory>
-    ensures { OnOk result (found.new ≡ spec.unless_dropped (spec.is_dropped (scope_of scope.now) directives.now) (spec.with_field field.entry) found.old) }
+    ensures { OnOk result (found.new ≡ spec.unless_dropped (spec.is_dropped scope.now directives.now)
+        (spec.with_field field.entry) found.old) }
 {
     if scope.is_dropped(directives) {
         return Ok(());
@@ -145,8 +163,11 @@ fn collect_spread<'a>(
     stack: &mut Vec<Frame<'a>>,
     found: &mut Object<'a>,
 ) -> Result<(), NoMemory>
-    ensures same { OnOk result (of_stack (scope_of scope.now) stack.new.items found.new ≡ of_stack (scope_of scope.now) stack.old.items (spec.unless_dropped (spec.is_dropped (scope_of scope.now) directives.now) (spec.spreading (scope_of scope.now) depth name.now) found.old)) }
-    ensures falls { OnOk result (stack_weight (scope_of scope.now).fragments stack.new.items < stack_weight (scope_of scope.now).fragments stack.old.items + spread_weight (scope_of scope.now).fragments depth name.now) }
+    ensures same { OnOk result (Adds scope.now
+        (unless scope.now directives.now (spec.spreading scope.now depth name.now)) stack.old.items found.old
+        stack.new.items found.new) }
+    ensures falls { OnOk result (Falls scope.now.fragments (spread_weight scope.now.fragments depth name.now)
+        stack.old.items stack.new.items) }
 {
     if scope.is_dropped(directives) {
         return Ok(());
@@ -161,8 +182,10 @@ fn spread<'a>(
     stack: &mut Vec<Frame<'a>>,
     found: &mut Object<'a>,
 ) -> Result<(), NoMemory>
-    ensures same { OnOk result (of_stack (scope_of scope.now) stack.new.items found.new ≡ of_stack (scope_of scope.now) stack.old.items (spec.spreading (scope_of scope.now) depth name.now found.old)) }
-    ensures falls { OnOk result (stack_weight (scope_of scope.now).fragments stack.new.items < stack_weight (scope_of scope.now).fragments stack.old.items + spread_weight (scope_of scope.now).fragments depth name.now) }
+    ensures same { OnOk result (Adds scope.now (spec.spreading scope.now depth name.now) stack.old.items found.old
+        stack.new.items found.new) }
+    ensures falls { OnOk result (Falls scope.now.fragments (spread_weight scope.now.fragments depth name.now)
+        stack.old.items stack.new.items) }
 {
     if depth == 0 {
         return Ok(());
@@ -186,8 +209,11 @@ fn collect_inline<'a>(
     stack: &mut Vec<Frame<'a>>,
     found: &mut Object<'a>,
 ) -> Result<(), NoMemory>
-    ensures same { OnOk result (of_stack (scope_of scope.now) stack.new.items found.new ≡ of_stack (scope_of scope.now) stack.old.items (spec.unless_dropped (spec.is_dropped (scope_of scope.now) directives.now) (λ c. spec.collecting (scope_of scope.now) (spec.spreading (scope_of scope.now) depth) set.now (spec.noted_if on.now c)) found.old)) }
-    ensures falls { OnOk result (stack_weight (scope_of scope.now).fragments stack.new.items < stack_weight (scope_of scope.now).fragments stack.old.items + (2 + weight_all (spread_weight (scope_of scope.now).fragments depth) set.now)) }
+    ensures same { OnOk result (Adds scope.now
+        (unless scope.now directives.now (entered scope.now depth on.now set.now)) stack.old.items found.old
+        stack.new.items found.new) }
+    ensures falls { OnOk result (Falls scope.now.fragments
+        (2 + weight_all (spread_weight scope.now.fragments depth) set.now) stack.old.items stack.new.items) }
 {
     if scope.is_dropped(directives) {
         return Ok(());
@@ -206,8 +232,11 @@ fn collect_one<'a>(
     stack: &mut Vec<Frame<'a>>,
     found: &mut Object<'a>,
 ) -> Result<(), NoMemory>
-    ensures same { OnOk result (of_stack (scope_of scope.now) stack.new.items found.new ≡ of_stack (scope_of scope.now) stack.old.items (spec.collect_one (scope_of scope.now) (spec.spreading (scope_of scope.now) depth) selection.now found.old)) }
-    ensures falls { OnOk result (stack_weight (scope_of scope.now).fragments stack.new.items < stack_weight (scope_of scope.now).fragments stack.old.items + weight_one (spread_weight (scope_of scope.now).fragments depth) selection.now) }
+    ensures same { OnOk result (Adds scope.now
+        (spec.collect_one scope.now (spec.spreading scope.now depth) selection.now) stack.old.items found.old
+        stack.new.items found.new) }
+    ensures falls { OnOk result (Falls scope.now.fragments
+        (weight_one (spread_weight scope.now.fragments depth) selection.now) stack.old.items stack.new.items) }
 {
     match selection {
         Selection::Field {
@@ -254,8 +283,10 @@ fn turn<'a>(
     stack: &mut Vec<Frame<'a>>,
     found: &mut Object<'a>,
 ) -> Result<(), NoMemory>
-    ensures same { OnOk result (of_stack (scope_of scope.now) stack.new.items found.new ≡ of_stack (scope_of scope.now) stack.old.items (of_frame (scope_of scope.now) frame.now found.old)) }
-    ensures falls { OnOk result (stack_weight (scope_of scope.now).fragments stack.new.items < stack_weight (scope_of scope.now).fragments stack.old.items + frame_weight (scope_of scope.now).fragments frame.now) }
+    ensures same { OnOk result (Adds scope.now (of_frame scope.now frame.now) stack.old.items found.old stack.new.items
+        found.new) }
+    ensures falls { OnOk result (Falls scope.now.fragments (frame_weight scope.now.fragments frame.now) stack.old.items
+        stack.new.items) }
 {
     let [first, rest @ ..] = frame.rest else {
         return Ok(());
@@ -264,8 +295,8 @@ fn turn<'a>(
     collect_one(alloc, scope, frame.depth, first, stack, found)
 }
 
-/// Collects selections in order; spreads nest at most `depth` deep. What waits stands on the heap, since inline fragments
-/// and spreads may nest as deep as a document is long.
+/// Collects selections in order; spreads nest at most `depth` deep. What waits stands on the heap, since inline
+/// fragments and spreads may nest as deep as a document is long.
 pub fn collect<'a>(
     alloc: Global,
     scope: &Scope<'a>,
@@ -273,7 +304,7 @@ pub fn collect<'a>(
     set: &'a [Selection],
     found: &mut Object<'a>,
 ) -> Result<(), NoMemory>
-    ensures { OnOk result (found.new ≡ spec.collecting (scope_of scope.now) (spec.spreading (scope_of scope.now) depth) set.now found.old) }
+    ensures { OnOk result (found.new ≡ spec.collecting scope.now (spec.spreading scope.now depth) set.now found.old) }
 {
     let mut stack = Vec::new(alloc);
     put(&mut stack, depth, set)?;
@@ -287,7 +318,7 @@ fn nothing<'a>(alloc: Global) -> Object<'a>
     ensures { result ≡ spec.nothing }
 {
     Object {
-        visited: Names::new(alloc),
+        visited: NameIndex::new(alloc),
         conditions: Vec::new(alloc),
         groups: Groups::new(alloc),
     }
@@ -299,7 +330,7 @@ pub fn collected<'a>(
     scope: &Scope<'a>,
     set: &'a [Selection],
 ) -> Result<Object<'a>, NoMemory>
-    ensures { IfOk result (λ found. found ≡ spec.collected (scope_of scope.now) set.now) }
+    ensures { IfOk result (λ found. found ≡ spec.collected scope.now set.now) }
 {
     let mut found = nothing(alloc);
     collect(alloc, scope, scope.fragment_count(), set, &mut found)?;
@@ -313,7 +344,8 @@ fn collect_selected<'a>(
     field: &Selected<'a>,
     found: &mut Object<'a>,
 ) -> Result<(), NoMemory>
-    ensures { OnOk result (found.new ≡ spec.collecting (scope_of scope.now) (spec.spreading (scope_of scope.now) depth) field.now.select found.old) }
+    ensures { OnOk result (found.new ≡ spec.collecting scope.now (spec.spreading scope.now depth) field.now.select
+        found.old) }
 {
     collect(alloc, scope, depth, field.select, found)
 }
@@ -326,7 +358,8 @@ fn collect_fields<'a>(
     fields: &[Selected<'a>],
     found: &mut Object<'a>,
 ) -> Result<(), NoMemory>
-    ensures { OnOk result (found.new ≡ spec.collecting (scope_of scope.now) (spec.spreading (scope_of scope.now) depth) (flat_map (λ (f : spec.Selected). f.select) fields.now) found.old) }
+    ensures { OnOk result (found.new ≡ spec.collecting scope.now (spec.spreading scope.now depth)
+        (flat_map (λ (f : spec.Selected). f.select) fields.now) found.old) }
 {
     for field in fields {
         collect_selected(alloc, scope, depth, field, found)?;
@@ -341,7 +374,7 @@ pub fn collected_inside<'a>(
     scope: &Scope<'a>,
     group: &Group<'a>,
 ) -> Result<Object<'a>, NoMemory>
-    ensures { IfOk result (λ found. found ≡ spec.collected (scope_of scope.now) (spec.inner_set group.now)) }
+    ensures { IfOk result (λ found. found ≡ spec.collected scope.now (spec.inner_set group.now)) }
 {
     let mut found = nothing(alloc);
     let depth = scope.fragment_count();

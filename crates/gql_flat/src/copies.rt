@@ -2,7 +2,6 @@
 
 ghost use Rattle.std.specs.Prelude.{◌≡◌, IfOk};
 
-use gql_scope::add;
 use request_model::{
     Directive, DirectiveList, GPair, GPairs, GValue, GValueList, TypeRef, VarDef, VarDefList,
 };
@@ -38,7 +37,7 @@ fn copy_values(alloc: Global, values: &[GValue]) -> Result<GValueList, NoMemory>
 {
     let mut copy = List::new(alloc);
     for value in values {
-        add(&mut copy, copy_value(alloc, value)?)?;
+        copy.add(copy_value(alloc, value)?)?;
     }
     Ok(copy)
 }
@@ -58,7 +57,7 @@ pub fn copy_pairs(alloc: Global, pairs: &[GPair]) -> Result<GPairs, NoMemory>
 {
     let mut copy = List::new(alloc);
     for pair in pairs {
-        add(&mut copy, copy_pair(alloc, pair)?)?;
+        copy.add(copy_pair(alloc, pair)?)?;
     }
     Ok(copy)
 }
@@ -88,7 +87,7 @@ fn copy_directives(alloc: Global, directives: &DirectiveList) -> Result<Directiv
     for directive in directives.as_slice() {
         let name = copy_str(alloc, &directive.name)?;
         let args = copy_pairs(alloc, directive.args.as_slice())?;
-        add(&mut copy, Directive { name, args })?;
+        copy.add(Directive { name, args })?;
     }
     Ok(copy)
 }
@@ -122,7 +121,7 @@ pub fn copy_variables(alloc: Global, variables: &[VarDef]) -> Result<VarDefList,
 {
     let mut copy = List::new(alloc);
     for variable in variables {
-        add(&mut copy, copy_variable(alloc, variable)?)?;
+        copy.add(copy_variable(alloc, variable)?)?;
     }
     Ok(copy)
 }

@@ -1,16 +1,30 @@
 //! The fields of an object, and of those in it (GraphQL October 2021, section 6.4.3, "Merging Selection Sets").
 
-ghost use Rattle.std.specs.Prelude.{◌≡◌, ◌≤◌, ◌<◌, ◌+◌, ◌⊎◌, ◌↔◌, ◌∷◌, [], map, IfOk, IfSome, None, MatchResult, IsTrue};
+ghost use Rattle.std.specs.Prelude.{
+  ◌≡◌,
+  ◌≤◌,
+  ◌<◌,
+  ◌+◌,
+  ◌⊎◌,
+  ◌↔◌,
+  ◌∷◌,
+  [],
+  map,
+  IfOk,
+  IfSome,
+  None,
+  MatchResult,
+  IsTrue,
+};
 ghost use Rattle.std.specs.List.{list_any};
 ghost use Rattle.request_model.specs.Selection as spec;
 ghost use Rattle.request_model.specs.declared.flat.FlatField.TheViews.{roll-FlatField};
-ghost use Rattle.gql_scope.specs.Scopes.{scope_of};
 ghost use Rattle.gql_flat.specs.Fields.{AreFields, AreTooLarge, FailsSo, IsCounted};
 
 use crate::collecting::{Group, Selected, collected_inside, conditions_of, groups_of};
 use crate::copies::{copy_pairs, copy_str};
 use gql_canon::{ordered_by_name, same_ordered, same_pairs};
-use gql_scope::{Scope, add, same};
+use gql_scope::Scope;
 use request_model::{FlatFault, FlatField, FlatFieldList, GPair, StrList};
 use scalar_val::{List, NoMemory, Str};
 use std::alloc::Global;
@@ -81,7 +95,7 @@ fn differ_as_written(first: &Selected<'_>, field: &Selected<'_>) -> Option<bool>
     ensures told { IfSome result (λ found. IsTrue found ↔ spec.Differ first.now field.now) }
     ensures untold { result ≡ None → first.now.name ≡ field.now.name }
 {
-    if !same(first.name.as_str(), field.name.as_str()) {
+    if first.name.as_str() != field.name.as_str() {
         return Some(true);
     }
     if same_pairs(first.args, field.args) {
@@ -109,7 +123,7 @@ pub fn copy_texts(alloc: Global, texts: &[&Str]) -> Result<StrList, NoMemory>
 {
     let mut copy = List::new(alloc);
     for text in texts {
-        add(&mut copy, copy_str(alloc, text)?)?;
+        copy.add(copy_str(alloc, text)?)?;
     }
     Ok(copy)
 }
@@ -123,7 +137,8 @@ pub struct Tally {
 
 /// Counts the field of a group.
 fn count(alloc: Global, group: &Group<'_>, tally: &mut Tally) -> Result<(), FlatFault>
-    ensures { MatchResult result (λ _. IsCounted group.now tally.old tally.new) (λ e. FailsSo e (spec.most_fields ≤ tally.old.fields)) }
+    ensures { MatchResult result (λ _. IsCounted group.now tally.old tally.new)
+        (λ e. FailsSo e (spec.most_fields ≤ tally.old.fields)) }
 {
     if tally.fields >= MOST_FIELDS {
         return Err(FlatFault::TooLarge);
@@ -144,7 +159,16 @@ fn field_of(
     conditions: &[&Str],
     fields: FlatFieldList,
 ) -> Result<FlatField, NoMemory>
-    ensures { IfOk result (λ field. field ≡ roll-FlatField (record { key = group.now.first.key; name = group.now.first.name; args = group.now.first.args; nested = list_any spec.has_inner (spec.fields_of group.now); conditions = map (λ t. t.now) conditions.now; fields = fields })) }
+    ensures { IfOk result (λ field. field ≡ roll-FlatField
+        (record {
+          key = group.now.first.key;
+          name = group.now.first.name;
+          args = group.now.first.args;
+          nested = list_any
+              spec.has_inner (spec.fields_of group.now);
+          conditions = map (λ t. t.now) conditions.now;
+          fields = fields;
+        })) }
 {
     let key = copy_str(alloc, group.first.key)?;
     let name = copy_str(alloc, group.first.name)?;
@@ -170,8 +194,8 @@ fn field<'a>(
     tally: &mut Tally,
 ) -> Result<FlatField, FlatFault>
     ensures { MatchResult result
-        (λ field. AreFields (scope_of scope.now) (levels + 1) (group.now ∷ []) tally.old tally.new (field ∷ []))
-        (λ e. FailsSo e (AreTooLarge (scope_of scope.now) (levels + 1) (group.now ∷ []) tally.old.fields)) }
+        (λ field. AreFields scope.now (levels + 1) (group.now ∷ []) tally.old tally.new (field ∷ []))
+        (λ e. FailsSo e (AreTooLarge scope.now (levels + 1) (group.now ∷ []) tally.old.fields)) }
 {
     match count(alloc, group, tally) {
         Ok(()) => {}
@@ -202,8 +226,8 @@ pub fn fields<'a>(
 ) -> Result<FlatFieldList, FlatFault>
     requires { tally.old.fields ≤ spec.most_fields }
     ensures { MatchResult result
-        (λ fields. AreFields (scope_of scope.now) levels groups.now tally.old tally.new fields)
-        (λ e. FailsSo e (AreTooLarge (scope_of scope.now) levels groups.now tally.old.fields)) }
+        (λ fields. AreFields scope.now levels groups.now tally.old tally.new fields)
+        (λ e. FailsSo e (AreTooLarge scope.now levels groups.now tally.old.fields)) }
 {
     let mut found = List::new(alloc);
     if groups.is_empty() {
@@ -217,7 +241,7 @@ pub fn fields<'a>(
             Ok(field) => field,
             Err(fault) => return Err(fault),
         };
-        match add(&mut found, field) {
+        match found.add(field) {
             Ok(()) => {}
             Err(_) => return Err(FlatFault::NoMemory),
         }

@@ -8,7 +8,6 @@ ghost use Rattle.serde_json.specs.View.{view};
 ghost use Rattle.request_model.specs.Selection as spec;
 ghost use Rattle.gql_flat.specs.Fields.{FailsSo};
 ghost use Rattle.request_model.specs.Selection.{given_values};
-ghost use Rattle.gql_scope.specs.Scopes.{scope_of};
 ghost use Rattle.gql_flat.specs.Whole.{IsWhole, OperationFlattens};
 
 use crate::collecting::{collected, conditions_of, groups_of};
@@ -47,7 +46,8 @@ fn operation_names<'a>(
     alloc: Global,
     operations: &[Operation<'a>],
 ) -> Result<Vec<&'a Str>, NoMemory>
-    ensures { IfOk result (λ names. map (λ n. n.now) names.items ≡ filter_map (λ (o : spec.Operation). o.name) operations.now) }
+    ensures { IfOk result (λ names. map (λ n. n.now) names.items
+        ≡ filter_map (λ (o : spec.Operation). o.name) operations.now) }
 {
     let mut names = Vec::new(alloc);
     for operation in operations {
@@ -84,7 +84,9 @@ fn shares_name(
     operations: &[Operation<'_>],
     scope: &Scope<'_>,
 ) -> Result<bool, NoMemory>
-    ensures { IfOk result (λ shares. shares ≡ (spec.repeats (filter_map (λ (o : spec.Operation). o.name) operations.now) || spec.repeats (map (λ (f : spec.Fragment). f.name) (scope_of scope.now).fragments) || spec.repeats (map (λ (v : VarDef). v.name) (scope_of scope.now).vars))) }
+    ensures { IfOk result (λ shares. shares ≡ (spec.repeats (filter_map (λ (o : spec.Operation). o.name) operations.now)
+        || spec.repeats (map (λ (f : spec.Fragment). f.name) scope.now.fragments)
+        || spec.repeats (map (λ (v : VarDef). v.name) scope.now.vars))) }
 {
     let operation_names = operation_names(alloc, operations)?;
     let fragment_names = fragment_names(alloc, scope.fragments.as_slice())?;
@@ -95,8 +97,8 @@ fn shares_name(
     Ok(operations_share || fragments_share || variables_share)
 }
 
-/// What an operation selects: the type conditions and the fields of its selection set, and whether two fields of one key
-/// differ in some object.
+/// What an operation selects: the type conditions and the fields of its selection set, and whether two fields of one
+/// key differ in some object.
 #[derive(Drop)]
 pub struct Whole {
     pub conditions: StrList,
@@ -109,7 +111,8 @@ fn collect_whole<'a>(
     scope: &Scope<'a>,
     operation: &Operation<'a>,
 ) -> Result<Whole, FlatFault>
-    ensures { MatchResult result (λ whole. IsWhole (scope_of scope.now) operation.now.select whole) (λ e. FailsSo e (IsTrue (spec.is_large (spec.fields_seen (scope_of scope.now) operation.now.select)))) }
+    ensures { MatchResult result (λ whole. IsWhole scope.now operation.now.select whole)
+        (λ e. FailsSo e (IsTrue (spec.is_large (spec.fields_seen scope.now operation.now.select)))) }
 {
     let Ok(root) = collected(alloc, scope, operation.select) else {
         return Err(FlatFault::NoMemory);
@@ -139,7 +142,7 @@ fn scope_for<'a>(
     operation: &Operation<'a>,
     variables: &'a Value,
 ) -> Result<Scope<'a>, NoMemory>
-    ensures { IfOk result (λ scope. scope_of scope ≡ spec.scope document.now (given_values (view variables.now)) operation.now) }
+    ensures { IfOk result (λ scope. scope ≡ spec.scope document.now (given_values (view variables.now)) operation.now) }
 {
     let fragments = Fragments::of(alloc, fragments_of(alloc, document)?)?;
     Scope::of(alloc, fragments, operation.vars, variables)
@@ -151,7 +154,9 @@ fn flat_of(
     operation: &Operation<'_>,
     whole: Whole,
 ) -> Result<Flat, NoMemory>
-    ensures { IfOk result (λ flat. flat ≡ record { kind = kind; vars = operation.now.vars; conditions = whole.conditions; fields = whole.fields }) }
+    ensures { IfOk result
+        (λ flat. flat
+        ≡ record { kind = kind; vars = operation.now.vars; conditions = whole.conditions; fields = whole.fields }) }
 {
     let vars = copy_variables(alloc, operation.vars)?;
     Ok(Flat {
@@ -208,20 +213,21 @@ fn flatten_operation<'a>(
 /// The flat selection of the operation that a request wants of its document: the operation's fields as GraphQL October
 /// 2021, section 6.3.2, collects them, with those of one response key merged as in section 6.4.3.
 ///
-/// The answer is the first of these faults that holds, or else the selection. `NoOperation`: there is no operation, or
-/// none of the wanted name. `AmbiguousOperation`: no name is wanted, and there are several operations. `NotServed`: the
-/// operation is a mutation. `UnknownFragment`: a spread in the operation or in a fragment that it reaches names no
-/// fragment. `FragmentCycle`: a fragment that it reaches reaches itself. `NoDirective`: a directive other than `skip` and
-/// `include` stands there, or one on the definition of the operation, of a variable of it or of a fragment that it
-/// reaches. `NotBoolean`: such a directive hasn't exactly one argument `if` with a boolean literal, or with a declared
-/// variable whose value is a boolean. `TooLarge`: a field is at level 13, or there are more than 4,096. `Conflict`: two
-/// operations, two fragments or two variables of the operation share a name, or two fields of one response key in one
-/// object differ in name or in arguments ordered by name.
+/// The answer is the first of these faults that holds, or else the selection. `NoOperation`: there is no operation,
+/// or none of the wanted name. `AmbiguousOperation`: no name is wanted, and there are several operations.
+/// `NotServed`: the operation is a mutation. `UnknownFragment`: a spread in the operation or in a fragment that it
+/// reaches names no fragment. `FragmentCycle`: a fragment that it reaches reaches itself. `NoDirective`: a directive
+/// other than `skip` and `include` stands there, or one on the definition of the operation, of a variable of it or of
+/// a fragment that it reaches. `NotBoolean`: such a directive hasn't exactly one argument `if` with a boolean
+/// literal, or with a declared variable whose value is a boolean. `TooLarge`: a field is at level 13, or there are
+/// more than 4,096. `Conflict`: two operations, two fragments or two variables of the operation share a name, or two
+/// fields of one response key in one object differ in name or in arguments ordered by name.
 ///
-/// `NoMemory` comes for want of memory alone. Collection stops at the first field that is too many or too deep, and an
+/// `NoMemory` comes only when out of memory. Collection stops at the first field that is too many or too deep, and an
 /// object visits each selection of the document at most once.
 pub fn flatten(alloc: Global, document: &Document, request: &Request) -> Result<Flat, FlatFault>
-    ensures { result ≢ Err FlatFault.NoMemory → spec.Flattens document.now request.now.operation (given_values (view request.now.variables)) result }
+    ensures { result ≢ Err FlatFault.NoMemory →
+        spec.Flattens document.now request.now.operation (given_values (view request.now.variables)) result }
 {
     let Ok(operations) = operations_of(alloc, document) else {
         return Err(FlatFault::NoMemory);

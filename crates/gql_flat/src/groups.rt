@@ -1,10 +1,10 @@
 //! The fields of one object, grouped by their response keys.
 
-ghost use Rattle.std.specs.Prelude.{◌≡◌, ◌++◌, ◌∷◌, [], map, OnOk};
+ghost use Rattle.std.specs.Prelude.{◌≡◌, ◌++◌, ◌∷◌, [], map, OnOk, OnErr};
 ghost use Rattle.request_model.specs.Selection as spec;
 ghost use Rattle.gql_flat.specs.Collecting.{keys_of};
 
-use gql_scope::Names;
+use name_set::NameIndex;
 use request_model::{GPair, Selection};
 use scalar_val::{NoMemory, Str};
 use std::alloc::Global;
@@ -58,7 +58,7 @@ impl<'a> Model for Group<'a> {
 #[derive(Drop)]
 pub struct Groups<'a> {
     items: Vec<Group<'a>>,
-    keys: Names<'a>,
+    keys: NameIndex<'a>,
 }
 
 impl<'a> Model for Groups<'a> {
@@ -81,22 +81,25 @@ impl<'a> Model for Groups<'a> {
 
 fn join<'a>(group: &mut Group<'a>, field: Selected<'a>) -> Result<(), NoMemory>
     ensures first { group.new.first ≡ group.old.first }
-    ensures joined { OnOk result (group.new ≡ record { first = group.old.first; others = group.old.others ++ field.entry ∷ [] }) }
+    ensures joined { OnOk result
+        (group.new ≡ record { first = group.old.first; others = group.old.others ++ field.entry ∷ [] }) }
 {
     group.others.push(field)?;
     Ok(())
 }
 
-/// Begins a group. Without memory for its key nothing is kept, so that the keys are always those of the groups.
+/// Begins a group. Out of memory the groups and their keys are as before.
 fn begin<'a>(
     alloc: Global,
     items: &mut Vec<Group<'a>>,
-    keys: &mut Names<'a>,
+    keys: &mut NameIndex<'a>,
     field: Selected<'a>,
 ) -> Result<(), NoMemory>
     requires { keys.old ≡ keys_of items.old.items }
     ensures keys { keys.new ≡ keys_of items.new.items }
-    ensures begun { OnOk result (items.new.items ≡ items.old.items ++ record { first = field.entry; others = [] } ∷ []) }
+    ensures err { OnErr result (items.new.items ≡ items.old.items) }
+    ensures begun { OnOk result (items.new.items
+        ≡ items.old.items ++ record { first = field.entry; others = [] } ∷ []) }
 {
     let key = field.key;
     let others = Vec::new(alloc);
@@ -107,8 +110,7 @@ fn begin<'a>(
     match keys.push(key) {
         Ok(()) => Ok(()),
         Err(_) => {
-            items.clear();
-            let _ = std::mem::replace(keys, Names::new(alloc));
+            items.pop();
             Err(NoMemory)
         }
     }
@@ -117,7 +119,7 @@ fn begin<'a>(
 fn add_field<'a>(
     alloc: Global,
     items: &mut Vec<Group<'a>>,
-    keys: &mut Names<'a>,
+    keys: &mut NameIndex<'a>,
     field: Selected<'a>,
 ) -> Result<(), NoMemory>
     requires { keys.old ≡ keys_of items.old.items }
@@ -136,7 +138,7 @@ impl<'a> Groups<'a> {
     {
         Groups {
             items: Vec::new(alloc),
-            keys: Names::new(alloc),
+            keys: NameIndex::new(alloc),
         }
     }
 

@@ -6,8 +6,7 @@ mod copies;
 mod fields;
 mod flattening;
 mod groups;
-#[cfg(test)]
-mod tests;
 
 pub use flattening::flatten;
 pub use gql_canon::canon;
+pub use request_model::{Flat, FlatFault, FlatField, FlatFieldList, Word};

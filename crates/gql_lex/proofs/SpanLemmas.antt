@@ -4,7 +4,7 @@ use Rattle.std.specs.Prelude.{◌==◌, ◌&&◌, ◌||◌, slice_index}
 use Rattle.std.specs.Char.{is_ascii_digit}
 use Rattle.std.specs.List.{prefix_len}
 use Rattle.std.specs.Option.{option_map}
-use Rattle.std.proofs.lemmas.Bool.{cases_lt, eqb-true}
+use Rattle.std.proofs.lemmas.Bool.{and_parts, cases_lt, eqb-true}
 use Rattle.std.proofs.lemmas.Bool.Decides.{nat_tests}
 use Rattle.std.proofs.lemmas.List.{drop-drop, get_or-drop, get_or_past}
 use Rattle.std.proofs.lemmas.List.Sums.{prefix_len-le-length, prefix_len_passes}
@@ -38,11 +38,6 @@ either z false x y f g = g refl
 -- a byte that isn't 0 lies in the text
 inside : (z : Text) (i b : ℕ) → slice_index z i ≡ b → b ≢ 0 → i < length z
 inside z i b e ne = elim (cases_lt i (length z)) [ inl h ↦ h | inr h ↦ absurd (ne (sym e ∙ get_or_past z i 0 h)) ]
-
-both_true : (p q : Bool) → p && q ≡ true → (p ≡ true) × (q ≡ true)
-both_true true true e = (refl, refl)
-both_true true false e = absurd cc
-both_true false q e = absurd cc
 
 one_true : (p q : Bool) → p || q ≡ true → (p ≡ true) ⊎ (q ≡ true)
 one_true true q e = inl refl
@@ -181,12 +176,12 @@ is_dots : (z : Text) → slice_index z 0 ≡ 46 → IsFront z (dots z)
 is_dots z e =
     either z (slice_index z 1 == 46 && slice_index z 2 == 46) (Found kind.Spread 3) Bad
     (λ b.
-    let third : slice_index z 2 ≡ 46 = eqb-true (slice_index z 2) 46 (both_true _ _ b).1 in
+    let third : slice_index z 2 ≡ 46 = eqb-true (slice_index z 2) 46 (and_parts _ _ b).1 in
     record { on = omega arith; within = (let k : 2 < length z = inside z 2 46 third (λ r. omega arith) in omega arith); first = omega arith; last = omega arith; quotes = λ q. absurd cc })
     (λ _. tt)
 
 is_mark_len : (z : Text) → is_mark z ≡ true → 3 ≤ length z
-is_mark_len z e = let k : 2 < length z = inside z 2 191 (eqb-true (slice_index z 2) 191 (both_true _ _ e).1) (λ r. omega arith) in omega arith
+is_mark_len z e = let k : 2 < length z = inside z 2 191 (eqb-true (slice_index z 2) 191 (and_parts _ _ e).1) (λ r. omega arith) in omega arith
 
 is_comment : (z : Text) → 0 < length z → IsFront z (Ignored (1 + prefix_len is_in_line (drop 1 z)))
 is_comment z h = (omega arith, omega (arith, prefix_len-le-length is_in_line (drop 1 z), length-drop 1 z))

@@ -1,6 +1,29 @@
 //! The characters of strings.
 
-ghost use Rattle.std.specs.Prelude.{◌≡◌, ◌<◌, ◌≤◌, ◌-◌, ◌^◌, length, slice_index, ◌⊎◌, ◌&&◌, IfOk, IfSome, IsSome, OnSome, true, false, [], ◌++◌, drop, take, encode_utf8, string_bytes, OnOk};
+ghost use Rattle.std.specs.Prelude.{
+  ◌≡◌,
+  ◌<◌,
+  ◌≤◌,
+  ◌-◌,
+  ◌^◌,
+  length,
+  slice_index,
+  ◌⊎◌,
+  ◌&&◌,
+  IfOk,
+  IfSome,
+  IsSome,
+  OnSome,
+  true,
+  false,
+  [],
+  ◌++◌,
+  drop,
+  take,
+  encode_utf8,
+  string_bytes,
+  OnOk,
+};
 ghost use Rattle.std.specs.Char.{is_ascii_hexdigit, digit_value};
 ghost use Rattle.std.specs.List.{prefix_len};
 ghost use Rattle.std.specs.Option.{option_map};
@@ -65,7 +88,8 @@ fn digit(b: u8) -> u32
 }
 
 fn are_digits(p: u8, q: u8, r: u8, s: u8) -> bool
-    ensures value { result ≡ (is_ascii_hexdigit p && is_ascii_hexdigit q && is_ascii_hexdigit r && is_ascii_hexdigit s) }
+    ensures value { result ≡ (is_ascii_hexdigit p && is_ascii_hexdigit q && is_ascii_hexdigit r
+        && is_ascii_hexdigit s) }
     ensures first { result ≡ true → (is_ascii_hexdigit p ≡ true) × (is_ascii_hexdigit q ≡ true) }
     ensures last { result ≡ true → (is_ascii_hexdigit r ≡ true) × (is_ascii_hexdigit s ≡ true) }
 {
@@ -192,7 +216,8 @@ pub fn closed_len(z: &[u8]) -> Option<usize>
 /// The end of the plain characters from a place on.
 fn plain_end(z: &[u8], at: usize) -> usize
     requires { at ≤ length z.now }
-    ensures text { spec.unescaped_from 0 (drop at z.now) ≡ take (result - at) (drop at z.now) ++ spec.unescaped_from 0 (drop result z.now) }
+    ensures text { spec.unescaped_from 0 (drop at z.now) ≡ take (result - at) (drop at z.now)
+        ++ spec.unescaped_from 0 (drop result z.now) }
     ensures stops { spec.is_plain (slice_index z.now result) ≡ false }
     ensures ascii { slice_index z.now result < 128 }
     ensures within { (at ≤ result) × (result ≤ length z.now) }
@@ -204,7 +229,8 @@ fn plain_end(z: &[u8], at: usize) -> usize
 fn escape_first(z: &[u8]) -> Option<(char, usize)>
     requires { spec.is_plain (slice_index z.now 0) ≡ false }
     ensures none { result ≡ None → spec.unescaped_from 0 z.now ≡ [] }
-    ensures some { IfSome result (λ e. spec.unescaped_from 0 z.now ≡ encode_utf8 e.0 ++ spec.unescaped_from 0 (drop e.1 z.now)) }
+    ensures some { IfSome result (λ e. spec.unescaped_from 0 z.now ≡ encode_utf8 e.0
+        ++ spec.unescaped_from 0 (drop e.1 z.now)) }
     ensures within { IfSome result (λ e. (2 ≤ e.1) × (e.1 ≤ length z.now)) }
     ensures ascii { IfSome result (λ e. slice_index z.now (e.1 - 1) < 128) }
 {
@@ -216,7 +242,8 @@ fn escape_at(z: &[u8], at: usize) -> Option<(char, usize)>
     requires within { at ≤ length z.now }
     requires stops { spec.is_plain (slice_index z.now at) ≡ false }
     ensures none { result ≡ None → spec.unescaped_from 0 (drop at z.now) ≡ [] }
-    ensures some { IfSome result (λ e. spec.unescaped_from 0 (drop at z.now) ≡ encode_utf8 e.0 ++ spec.unescaped_from 0 (drop e.1 z.now)) }
+    ensures some { IfSome result (λ e. spec.unescaped_from 0 (drop at z.now)
+        ≡ encode_utf8 e.0 ++ spec.unescaped_from 0 (drop e.1 z.now)) }
     ensures within { IfSome result (λ e. (at < e.1) × (e.1 ≤ length z.now)) }
     ensures ascii { IfSome result (λ e. slice_index z.now (e.1 - 1) < 128) }
 {

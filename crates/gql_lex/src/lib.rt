@@ -5,8 +5,6 @@ mod bytes;
 mod chars;
 mod front;
 mod run;
-#[cfg(test)]
-mod tests;
 
 pub use chars::unescaped;
 pub use request_model::{Token, TokenKind};

@@ -13,7 +13,7 @@ use std::marker::Model;
 /// Why a text has no run.
 #[derive(Clone, Copy, Debug, PartialEq, Eq)]
 pub enum LexFault {
-    /// Memory was refused.
+    /// Out of memory.
     NoMemory,
 }
 
@@ -57,7 +57,7 @@ impl TokenRun {
 }
 
 /// The lexemes of the text, each as long as possible, up to its first bad one (GraphQL October 2021, section 2.1,
-/// "Source Text"). It fails for want of memory alone.
+/// "Source Text"). It fails only when out of memory.
 pub fn tokens(alloc: Global, text: &str) -> Result<TokenRun, LexFault>
     ensures { IfOk result (λ run. run ≡ spec.lexemes text.now) }
 {
@@ -87,8 +87,8 @@ pub fn tokens(alloc: Global, text: &str) -> Result<TokenRun, LexFault>
     Ok(TokenRun { items, bad: None })
 }
 
-/// The lexemes of every text lie in it, in order. Each begins and ends with an ASCII byte, so the text may be cut there,
-/// and a string has its two quotes.
+/// The lexemes of every text lie in it, in order. Each begins and ends with an ASCII byte, so the text may be cut
+/// there, and a string has its two quotes.
 pub fn spans()
     ensures within { (text : Text) → AreSpans text (spec.lexemes text).0 }
     ensures in_order { (text : Text) → AreInOrder 0 (spec.lexemes text).0 }

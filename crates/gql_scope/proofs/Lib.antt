@@ -2,5 +2,4 @@ pub mod GraphRules
 pub mod PartRules
 pub mod PlaceRules
 pub mod ReachRules
-pub mod RepeatRules
 pub mod TruthRules

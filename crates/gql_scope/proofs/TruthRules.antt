@@ -1,35 +1,11 @@
 -- Truth, and tests of numbers and texts.
-use Rattle.std.proofs.Common.{◌≡◌, ◌⊎◌, inl, inr, ◌<◌, ◌||◌, ◌&&◌, nat_eq, nat_lt, arith, refl, subst, ℕ, Bool, true, false, Option, Some, None}
+use Rattle.std.proofs.Common.{◌≡◌, ◌<◌, nat_eq, nat_lt, arith, refl, subst, ℕ, Bool, true, Option, Some, None}
 use Rattle.std.specs.Bool.{MatchBool}
 use Rattle.std.specs.Option.{MatchOption}
 use Rattle.std.specs.Str.{bytes_eq}
 use Rattle.std.proofs.lemmas.Bool.Decides.{nat_tests}
 use Rattle.std.proofs.lemmas.Slice.Eq.{bytes_eq-Decides}
 use Rattle.request_model.specs.Strings.{Text}
-
-pub or_true : (a b : Bool) → (a || b) ≡ true → (a ≡ true) ⊎ (b ≡ true)
-or_true true b h = inl refl
-or_true false b h = inr h
-
-pub or_left : (a b : Bool) → a ≡ true → (a || b) ≡ true
-or_left true b h = refl
-or_left false b h = cc
-
-pub or_right : (a b : Bool) → b ≡ true → (a || b) ≡ true
-or_right true b h = refl
-or_right false b h = h
-
-pub or_false : (a b : Bool) → (a || b) ≡ false → (a ≡ false) × (b ≡ false)
-or_false true b h = cc
-or_false false b h = (refl, h)
-
-pub both_true : (a b : Bool) → (a && b) ≡ true → (a ≡ true) × (b ≡ true)
-both_true true b h = (refl, h)
-both_true false b h = cc
-
-pub and_true : (a b : Bool) → a ≡ true → b ≡ true → (a && b) ≡ true
-and_true true b h g = g
-and_true false b h g = cc
 
 pub same_number : (j k : ℕ) → nat_eq j k ≡ true → j ≡ k
 same_number j k h = grind (arith, nat_tests)
@@ -48,9 +24,6 @@ same_text t u h = (bytes_eq-Decides t u).0 h
 
 pub own_text : (t : Text) → bytes_eq t t ≡ true
 own_text t = (bytes_eq-Decides t t).1 refl
-
-pub not_true : false ≡ true → ⊥
-not_true h = cc
 
 pub at_true : (b : Bool) (P Q : Type 0) → b ≡ true → MatchBool b P Q → P
 at_true b P Q e h = subst (λ x. MatchBool x P Q) e h

@@ -1,11 +1,37 @@
 -- The fragments of a document as numbers, and what is looked for in those that are reached.
-use Rattle.std.specs.Prelude.{◌↔◌, IsTrue, ℕ, List, [], ◌∷◌, Bool, false, not, ◌&&◌, ◌||◌, nat_lt, length, map, filter, is_none}
+use Rattle.std.specs.Prelude.{
+  ◌↔◌,
+  IsTrue,
+  ℕ,
+  List,
+  [],
+  ◌∷◌,
+  Bool,
+  false,
+  not,
+  ◌&&◌,
+  ◌||◌,
+  nat_lt,
+  length,
+  map,
+  filter,
+  is_none,
+}
 use Rattle.std.specs.List.{list_any, position_or_len}
 use Rattle.std.specs.Str.{bytes_eq}
 use Rattle.request_model.specs.declared.document.Directive.{Directive}
 use Rattle.request_model.specs.declared.document.Selection.{Selection}
 use Rattle.request_model.specs.Strings.{Text}
-use Rattle.request_model.specs.Selection.{Fragment, Scope, fragment_named, spreads, directives_in, has_some, is_served, condition}
+use Rattle.request_model.specs.Selection.{
+  Fragment,
+  Scope,
+  fragment_named,
+  spreads,
+  directives_in,
+  has_some,
+  is_served,
+  condition,
+}
 use Rattle.gql_scope.specs.Graph.{is_marked, Reaches}
 use Rattle.gql_scope.specs.declared.walks.Check.{Check}
 use Rattle.gql_scope.specs.declared.walks.Check.TheVariants as check

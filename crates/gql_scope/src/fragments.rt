@@ -6,8 +6,8 @@ ghost use Rattle.std.specs.Option.{option_copied};
 ghost use Rattle.request_model.specs.Selection as spec;
 ghost use Rattle.gql_scope.specs.Walks.{place_of};
 
-use crate::names::Names;
 use crate::operation::Fragment;
+use name_set::NameIndex;
 use scalar_val::NoMemory;
 use std::alloc::Global;
 use std::marker::Model;
@@ -16,7 +16,7 @@ use std::marker::Model;
 #[derive(Drop)]
 pub struct Fragments<'a> {
     items: Vec<Fragment<'a>>,
-    names: Names<'a>,
+    names: NameIndex<'a>,
 }
 
 impl<'a> Model for Fragments<'a> {
@@ -36,10 +36,10 @@ impl<'a> Model for Fragments<'a> {
     ghost invariant = { λ f. f.names ≡ map (λ (g : spec.Fragment). g.name) f.items.items };
 }
 
-fn names_of<'a>(alloc: Global, fragments: &[Fragment<'a>]) -> Result<Names<'a>, NoMemory>
+fn names_of<'a>(alloc: Global, fragments: &[Fragment<'a>]) -> Result<NameIndex<'a>, NoMemory>
     ensures { IfOk result (λ names. names ≡ map (λ (f : spec.Fragment). f.name) fragments.now) }
 {
-    let mut names = Names::new(alloc);
+    let mut names = NameIndex::new(alloc);
     for fragment in fragments {
         names.push(fragment.name)?;
     }
@@ -53,7 +53,7 @@ fn at<'a, 'b>(fragments: &'b [Fragment<'a>], place: usize) -> Option<&'b Fragmen
 }
 
 impl<'a> Fragments<'a> {
-    /// The fragments in their order, with a map of their names. It fails only for want of memory.
+    /// The fragments in their order, with a map of their names. It fails only when out of memory.
     pub fn of(alloc: Global, items: Vec<Fragment<'a>>) -> Result<Fragments<'a>, NoMemory>
         ensures { IfOk result (λ fragments. fragments ≡ items.entry.items) }
     {

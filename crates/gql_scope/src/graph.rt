@@ -1,6 +1,23 @@
 //! Which numbers are reached from others along edges.
 
-ghost use Rattle.std.specs.Prelude.{◌==◌, false, ◌≡◌, ◌<◌, ◌≤◌, ◌+◌, ◌*◌, ◌||◌, ◌&&◌, ◌↔◌, ℕ, not, length, IfOk, OnOk, IsTrue};
+ghost use Rattle.std.specs.Prelude.{
+  ◌==◌,
+  false,
+  ◌≡◌,
+  ◌<◌,
+  ◌≤◌,
+  ◌+◌,
+  ◌*◌,
+  ◌||◌,
+  ◌&&◌,
+  ◌↔◌,
+  ℕ,
+  not,
+  length,
+  IfOk,
+  OnOk,
+  IsTrue,
+};
 ghost use Rattle.gql_scope.specs.Graph.{is_in, is_marked, targets_at, AreBelow, AllBelow, unmarked, Reaches, HasCycle};
 
 use scalar_val::{List, NoMemory};
@@ -10,9 +27,12 @@ use std::alloc::Global;
 fn mark(marks: &mut Vec<bool>, waiting: &mut Vec<usize>, target: usize) -> Result<(), NoMemory>
     requires { target < length marks.old.items }
     ensures len { length marks.new.items ≡ length marks.old.items }
-    ensures marked { OnOk result ((k : ℕ) → is_marked marks.new.items k ≡ (is_marked marks.old.items k || (k == target))) }
-    ensures waits { OnOk result ((k : ℕ) → is_in k waiting.new.items ≡ (is_in k waiting.old.items || (not (is_marked marks.old.items k) && (k == target)))) }
-    ensures left { OnOk result (2 * unmarked marks.new.items + length waiting.new.items ≤ 2 * unmarked marks.old.items + length waiting.old.items) }
+    ensures marked { OnOk result ((k : ℕ) → is_marked marks.new.items k
+        ≡ (is_marked marks.old.items k || (k == target))) }
+    ensures waits { OnOk result ((k : ℕ) → is_in k waiting.new.items
+        ≡ (is_in k waiting.old.items || (not (is_marked marks.old.items k) && (k == target)))) }
+    ensures left { OnOk result (2 * unmarked marks.new.items + length waiting.new.items ≤ 2 * unmarked marks.old.items
+        + length waiting.old.items) }
 {
     if marks[target] {
         return Ok(());
@@ -29,9 +49,12 @@ fn mark_all(
 ) -> Result<(), NoMemory>
     requires { AreBelow (length marks.old.items) targets.now }
     ensures len { length marks.new.items ≡ length marks.old.items }
-    ensures marked { OnOk result ((k : ℕ) → is_marked marks.new.items k ≡ (is_marked marks.old.items k || is_in k targets.now)) }
-    ensures waits { OnOk result ((k : ℕ) → is_in k waiting.new.items ≡ (is_in k waiting.old.items || (not (is_marked marks.old.items k) && is_in k targets.now))) }
-    ensures left { OnOk result (2 * unmarked marks.new.items + length waiting.new.items ≤ 2 * unmarked marks.old.items + length waiting.old.items) }
+    ensures marked { OnOk result ((k : ℕ) → is_marked marks.new.items k
+        ≡ (is_marked marks.old.items k || is_in k targets.now)) }
+    ensures waits { OnOk result ((k : ℕ) → is_in k waiting.new.items
+        ≡ (is_in k waiting.old.items || (not (is_marked marks.old.items k) && is_in k targets.now))) }
+    ensures left { OnOk result (2 * unmarked marks.new.items + length waiting.new.items ≤ 2 * unmarked marks.old.items
+        + length waiting.old.items) }
 {
     for target in targets {
         mark(marks, waiting, *target)?;

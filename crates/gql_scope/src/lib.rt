@@ -4,19 +4,15 @@
 
 mod fragments;
 mod graph;
-mod lists;
 mod names;
 mod operation;
 mod refusals;
 mod scope;
 mod spreads;
-#[cfg(test)]
-mod tests;
 mod walks;
 
 pub use fragments::Fragments;
-pub use lists::add;
-pub use names::{Names, repeats};
-pub use operation::{Fragment, Operation, chosen, fragments_of, operations_of, same};
+pub use names::repeats;
+pub use operation::{Fragment, Operation, chosen, fragments_of, operations_of};
 pub use refusals::first_refusal;
 pub use scope::Scope;

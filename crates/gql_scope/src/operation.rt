@@ -4,20 +4,12 @@ ghost use Rattle.std.specs.Prelude.{◌≡◌, Some, None, find, IfOk};
 ghost use Rattle.std.specs.List.{filter_map};
 ghost use Rattle.std.specs.Option.{option_copied};
 ghost use Rattle.std.specs.Result.{result_map_both};
-ghost use Rattle.std.specs.Str.{bytes_eq};
 ghost use Rattle.request_model.specs.Selection as spec;
 
 use request_model::{Definition, Directive, Document, FlatFault, OpWord, Selection, VarDef};
 use scalar_val::{NoMemory, Str};
 use std::alloc::Global;
 use std::marker::Model;
-
-/// Whether two names are the same, byte by byte.
-pub fn same(a: &str, b: &str) -> bool
-    ensures { result ≡ bytes_eq a.now b.now }
-{
-    a == b
-}
 
 /// An operation of a document.
 #[derive(Drop)]
@@ -40,9 +32,17 @@ impl<'a> Model for Operation<'a> {
 
     ghost Value = { spec.Operation };
 
-    ghost coded = { Prim.hlevel (codes, gvalue.the_row.coded, gpair.the_row.coded, type_ref.the_row.coded, selection.the_row.coded) };
+    ghost coded = { Prim.hlevel
+        (codes, gvalue.the_row.coded, gpair.the_row.coded, type_ref.the_row.coded, selection.the_row.coded) };
 
-    ghost view = { λ o. record { word = o.word; name = option_copied o.name; vars = o.vars.now; directives = o.directives.now; select = o.select.now } };
+    ghost view = { λ o. record {
+      word = o.word;
+      name = option_copied
+          o.name;
+      vars = o.vars.now;
+      directives = o.directives.now;
+      select = o.select.now;
+    } };
 }
 
 /// A fragment of a document.
@@ -65,7 +65,12 @@ impl<'a> Model for Fragment<'a> {
 
     ghost coded = { Prim.hlevel (codes, gvalue.the_row.coded, gpair.the_row.coded, selection.the_row.coded) };
 
-    ghost view = { λ f. record { name = f.name.now; on = f.on.now; directives = f.directives.now; select = f.select.now } };
+    ghost view = { λ f. record {
+      name = f.name.now;
+      on = f.on.now;
+      directives = f.directives.now;
+      select = f.select.now;
+    } };
 }
 
 fn operation_of(definition: &Definition) -> Option<Operation<'_>>
@@ -138,7 +143,7 @@ fn is_called(operation: &Operation<'_>, name: &str) -> bool
     ensures { result ≡ spec.is_called name.now operation.now }
 {
     match operation.name {
-        Some(own) => same(name, own.as_str()),
+        Some(own) => name == own.as_str(),
         None => false,
     }
 }
@@ -147,7 +152,8 @@ fn named<'a, 'b>(
     operations: &'b [Operation<'a>],
     name: &str,
 ) -> Result<&'b Operation<'a>, FlatFault>
-    ensures { result_map_both (λ o. o.now) (λ e. e) result ≡ spec.or_no_operation (find (spec.is_called name.now) operations.now) }
+    ensures { result_map_both (λ o. o.now) (λ e. e) result
+        ≡ spec.or_no_operation (find (spec.is_called name.now) operations.now) }
 {
     for operation in operations {
         if is_called(operation, name) {

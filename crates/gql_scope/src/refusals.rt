@@ -5,7 +5,6 @@ ghost use Rattle.std.specs.List.{AllByRecursion};
 ghost use Rattle.request_model.specs.Selection as spec;
 ghost use Rattle.gql_scope.specs.declared.walks.Check.TheVariants as check;
 ghost use Rattle.gql_scope.specs.Refusals.{InReachFails, HasStray, HasFragmentCycle, Refuses, refusals};
-ghost use Rattle.gql_scope.specs.Scopes.{scope_of};
 ghost use Rattle.gql_scope.specs.Walks.{edges_of, AreReached};
 
 use crate::graph::{has_cycle, reached};
@@ -24,9 +23,9 @@ pub struct Reach {
 }
 
 fn reach_of(alloc: Global, scope: &Scope<'_>, operation: &Operation<'_>) -> Result<Reach, NoMemory>
-    ensures edges { IfOk result (λ reach. reach.edges.items ≡ edges_of (scope_of scope.now).fragments) }
-    ensures len { IfOk result (λ reach. length reach.marks.items ≡ length (scope_of scope.now).fragments) }
-    ensures marks { IfOk result (λ reach. AreReached (scope_of scope.now).fragments operation.now.select reach.marks.items) }
+    ensures edges { IfOk result (λ reach. reach.edges.items ≡ edges_of scope.now.fragments) }
+    ensures len { IfOk result (λ reach. length reach.marks.items ≡ length scope.now.fragments) }
+    ensures marks { IfOk result (λ reach. AreReached scope.now.fragments operation.now.select reach.marks.items) }
 {
     let fragments = &scope.fragments;
     let edges = edges_of(alloc, fragments)?;
@@ -42,9 +41,9 @@ fn in_reach(
     operation: &Operation<'_>,
     marks: &[bool],
 ) -> Result<bool, NoMemory>
-    requires len { length marks.now ≡ length (scope_of scope.now).fragments }
-    requires marks { AreReached (scope_of scope.now).fragments operation.now.select marks.now }
-    ensures { IfOk result (λ found. IsTrue found ↔ InReachFails check (scope_of scope.now) operation.now) }
+    requires len { length marks.now ≡ length scope.now.fragments }
+    requires marks { AreReached scope.now.fragments operation.now.select marks.now }
+    ensures { IfOk result (λ found. IsTrue found ↔ InReachFails check scope.now operation.now) }
 {
     reach_fails(alloc, scope, check, operation, marks)
 }
@@ -55,10 +54,10 @@ fn has_fragment_cycle(
     operation: &Operation<'_>,
     reach: &Reach,
 ) -> Result<bool, NoMemory>
-    requires edges { reach.now.edges.items ≡ edges_of (scope_of scope.now).fragments }
-    requires len { length reach.now.marks.items ≡ length (scope_of scope.now).fragments }
-    requires marks { AreReached (scope_of scope.now).fragments operation.now.select reach.now.marks.items }
-    ensures { IfOk result (λ found. IsTrue found ↔ HasFragmentCycle (scope_of scope.now) operation.now) }
+    requires edges { reach.now.edges.items ≡ edges_of scope.now.fragments }
+    requires len { length reach.now.marks.items ≡ length scope.now.fragments }
+    requires marks { AreReached scope.now.fragments operation.now.select reach.now.marks.items }
+    ensures { IfOk result (λ found. IsTrue found ↔ HasFragmentCycle scope.now operation.now) }
 {
     has_cycle(alloc, reach.edges.as_slice(), reach.marks.as_slice())
 }
@@ -69,9 +68,9 @@ fn has_stray(
     operation: &Operation<'_>,
     marks: &[bool],
 ) -> Result<bool, NoMemory>
-    requires len { length marks.now ≡ length (scope_of scope.now).fragments }
-    requires marks { AreReached (scope_of scope.now).fragments operation.now.select marks.now }
-    ensures { IfOk result (λ found. IsTrue found ↔ HasStray (scope_of scope.now) operation.now) }
+    requires len { length marks.now ≡ length scope.now.fragments }
+    requires marks { AreReached scope.now.fragments operation.now.select marks.now }
+    ensures { IfOk result (λ found. IsTrue found ↔ HasStray scope.now operation.now) }
 {
     let on_variables = vars_have_directives(operation.vars);
     let elsewhere = in_reach(alloc, scope, Check::Served, operation, marks)?;
@@ -86,8 +85,8 @@ pub fn first_refusal(
     operation: &Operation<'_>,
 ) -> Result<Option<FlatFault>, NoMemory>
     ensures { IfOk result (λ found. MatchOption found
-        (AllByRecursion (λ x. Refuses (scope_of scope.now) operation.now x → ⊥) refusals)
-        (spec.IsFirst (Refuses (scope_of scope.now) operation.now) refusals)) }
+        (AllByRecursion (λ x. Refuses scope.now operation.now x → ⊥) refusals)
+        (spec.IsFirst (Refuses scope.now operation.now) refusals)) }
 {
     let reach = reach_of(alloc, scope, operation)?;
     let marks = reach.marks.as_slice();

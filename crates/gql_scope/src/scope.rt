@@ -8,11 +8,10 @@ ghost use Rattle.serde_json.specs.View.{view};
 ghost use Rattle.request_model.specs.Selection as spec;
 ghost use Rattle.request_model.specs.Selection.{given_values};
 ghost use Rattle.request_model.specs.declared.document.VarDef.{VarDef};
-ghost use Rattle.gql_scope.specs.Scopes.{scope_of};
 
 use crate::fragments::Fragments;
-use crate::names::Names;
-use crate::operation::{Fragment, same};
+use crate::operation::Fragment;
+use name_set::NameIndex;
 use request_model::{Directive, GPair, GValue, VarDef};
 use scalar_val::NoMemory;
 use serde_json::Value;
@@ -26,26 +25,41 @@ pub struct Scope<'a> {
     pub fragments: Fragments<'a>,
     vars: &'a [VarDef],
     variables: &'a Value,
-    names: Names<'a>,
+    names: NameIndex<'a>,
     booleans: Vec<Option<bool>>,
 }
 
 impl<'a> Model for Scope<'a> {
     ghost use Rattle.std.specs.Coded.{codes};
-    ghost use Rattle.serde_json.specs.contracts.value.Value as value;
+    ghost use Rattle.serde_json.specs.View.{view as data_of};
+    ghost use Rattle.request_model.specs.Selection as spec;
     ghost use Rattle.request_model.specs.contracts.document.GValue as gvalue;
     ghost use Rattle.request_model.specs.contracts.document.GPair as gpair;
     ghost use Rattle.request_model.specs.contracts.document.TypeRef as type_ref;
     ghost use Rattle.request_model.specs.contracts.document.Selection as selection;
-    ghost use Rattle.gql_scope.specs.Scopes.{Given, AreVariables};
+    ghost use Rattle.gql_scope.specs.Codes.{members_code};
+    ghost use Rattle.gql_scope.specs.Scopes.{AreVariables};
 
-    ghost Value = { Given };
+    ghost Value = { spec.Scope };
 
-    ghost coded = { Prim.hlevel (codes, gvalue.the_row.coded, gpair.the_row.coded, type_ref.the_row.coded, selection.the_row.coded, value.the_row.coded) };
+    ghost coded = { Prim.hlevel (
+      codes,
+      gvalue.the_row.coded,
+      gpair.the_row.coded,
+      type_ref.the_row.coded,
+      selection.the_row.coded,
+      members_code,
+    ) };
 
-    ghost view = { λ s. record { fragments = s.fragments; vars = s.vars.now; variables = s.variables.now } };
+    ghost view = { λ s. record {
+      fragments = s.fragments;
+      vars = s.vars.now;
+      values = spec.given_values
+          (data_of s.variables.now);
+    } };
 
-    ghost invariant = { λ s. AreVariables s.variables.now s.vars.now s.names s.booleans.items };
+    ghost invariant = { λ s. AreVariables (spec.given_values (data_of s.variables.now)) s.vars.now s.names
+        s.booleans.items };
 }
 
 fn literal_bool(value: &GValue) -> Option<bool>
@@ -60,13 +74,13 @@ fn literal_bool(value: &GValue) -> Option<bool>
 pub fn is_skip(directive: &Directive) -> bool
     ensures { result ≡ spec.is_skip directive.now }
 {
-    same(directive.name.as_str(), "skip")
+    directive.name.as_str() == "skip"
 }
 
 pub fn is_include(directive: &Directive) -> bool
     ensures { result ≡ spec.is_include directive.now }
 {
-    same(directive.name.as_str(), "include")
+    directive.name.as_str() == "include"
 }
 
 fn variable_bool(variables: &Value, variable: &VarDef) -> Option<bool>
@@ -78,10 +92,10 @@ fn variable_bool(variables: &Value, variable: &VarDef) -> Option<bool>
     }
 }
 
-fn names_of(alloc: Global, vars: &[VarDef]) -> Result<Names<'_>, NoMemory>
+fn names_of(alloc: Global, vars: &[VarDef]) -> Result<NameIndex<'_>, NoMemory>
     ensures { IfOk result (λ names. names ≡ map (λ (v : VarDef). v.name) vars.now) }
 {
-    let mut names = Names::new(alloc);
+    let mut names = NameIndex::new(alloc);
     for variable in vars {
         names.push(&variable.name)?;
     }
@@ -93,7 +107,8 @@ fn booleans_of(
     variables: &Value,
     vars: &[VarDef],
 ) -> Result<Vec<Option<bool>>, NoMemory>
-    ensures { IfOk result (λ booleans. booleans.items ≡ map (spec.variable_bool (given_values (view variables.now))) vars.now) }
+    ensures { IfOk result (λ booleans. booleans.items
+        ≡ map (spec.variable_bool (given_values (view variables.now))) vars.now) }
 {
     let mut booleans = Vec::new(alloc);
     for variable in vars {
@@ -109,15 +124,21 @@ fn boolean_at(booleans: &[Option<bool>], place: usize) -> Option<bool>
 }
 
 impl<'a> Scope<'a> {
-    /// The scope of an operation. Each variable's value is looked up here, once.
-    /// The fragments, variables and values, with each variable's boolean. It fails only for want of memory.
+    /// The scope of an operation: the fragments of its document, its variables and the values that are given for them.
+    /// Each variable's value is looked up here, once. It fails only when out of memory.
     pub fn of(
         alloc: Global,
         fragments: Fragments<'a>,
         vars: &'a [VarDef],
         variables: &'a Value,
     ) -> Result<Scope<'a>, NoMemory>
-        ensures { IfOk result (λ s. scope_of s ≡ record { fragments = fragments.entry; vars = vars.now; values = given_values (view variables.now) }) }
+        ensures { IfOk result
+            (λ s. s ≡ record {
+              fragments = fragments.entry;
+              vars = vars.now;
+              values = given_values
+                  (view variables.now);
+            }) }
     {
         let names = names_of(alloc, vars)?;
         let booleans = booleans_of(alloc, variables, vars)?;
@@ -132,28 +153,28 @@ impl<'a> Scope<'a> {
 
     /// The variables of the operation.
     pub fn vars(&self) -> &'a [VarDef]
-        ensures { result.now ≡ (scope_of self.now).vars }
+        ensures { result.now ≡ self.now.vars }
     {
         self.vars
     }
 
     /// How many fragments the document has.
-    /// How many fragments the document has.
     pub fn fragment_count(&self) -> usize
-        ensures { result ≡ length (scope_of self.now).fragments }
+        ensures { result ≡ length self.now.fragments }
     {
         self.fragments.count()
     }
 
     /// The first fragment of a name.
     pub fn fragment(&self, name: &str) -> Option<&Fragment<'a>>
-        ensures { option_copied result ≡ spec.fragment_named (scope_of self.now).fragments name.now }
+        ensures { option_copied result ≡ spec.fragment_named self.now.fragments name.now }
     {
         self.fragments.named(name)
     }
 
     fn named_bool(&self, name: &str) -> Option<bool>
-        ensures { result ≡ option_and_then (spec.variable_bool (scope_of self.now).values) (find (λ (v : VarDef). bytes_eq name.now v.name) (scope_of self.now).vars) }
+        ensures { result ≡ option_and_then (spec.variable_bool self.now.values)
+            (find (λ (v : VarDef). bytes_eq name.now v.name) self.now.vars) }
     {
         match self.names.place(name) {
             Some(place) => boolean_at(self.booleans.as_slice(), place),
@@ -162,7 +183,7 @@ impl<'a> Scope<'a> {
     }
 
     fn bool_of(&self, value: &GValue) -> Option<bool>
-        ensures { result ≡ spec.bool_of (scope_of self.now) value.now }
+        ensures { result ≡ spec.bool_of self.now value.now }
     {
         match value {
             GValue::Bool(truth) => Some(*truth),
@@ -172,11 +193,11 @@ impl<'a> Scope<'a> {
     }
 
     fn condition_in(&self, args: &[GPair]) -> Option<bool>
-        ensures { result ≡ spec.condition_in (scope_of self.now) args.now }
+        ensures { result ≡ spec.condition_in self.now args.now }
     {
         match args {
             [pair] => {
-                if same(pair.name.as_str(), "if") {
+                if pair.name.as_str() == "if" {
                     self.bool_of(&pair.value)
                 } else {
                     None
@@ -189,13 +210,13 @@ impl<'a> Scope<'a> {
     /// The condition of `@skip` or `@include`, which is its one argument `if`: a boolean, or a declared variable whose
     /// value is a boolean.
     pub fn condition(&self, directive: &Directive) -> Option<bool>
-        ensures { result ≡ spec.condition (scope_of self.now) directive.now }
+        ensures { result ≡ spec.condition self.now directive.now }
     {
         self.condition_in(directive.args.as_slice())
     }
 
     fn drops(&self, directive: &Directive) -> bool
-        ensures { result ≡ spec.drops (scope_of self.now) directive.now }
+        ensures { result ≡ spec.drops self.now directive.now }
     {
         match self.condition(directive) {
             Some(true) => is_skip(directive),
@@ -206,7 +227,7 @@ impl<'a> Scope<'a> {
 
     /// Whether the selection with these directives is dropped.
     pub fn is_dropped(&self, directives: &[Directive]) -> bool
-        ensures { result ≡ spec.is_dropped (scope_of self.now) directives.now }
+        ensures { result ≡ spec.is_dropped self.now directives.now }
     {
         for directive in directives {
             if self.drops(directive) {

@@ -11,7 +11,8 @@ use scalar_val::{NoMemory, Str};
 /// Appends the names of the fragments that selections spread.
 #[cycle(spread)]
 pub fn put_spreads<'a>(set: &'a [Selection], names: &mut Vec<&'a Str>) -> Result<(), NoMemory>
-    ensures { OnOk result (map (λ n. n.now) names.new.items ≡ map (λ n. n.now) names.old.items ++ spec.spreads set.now) }
+    ensures { OnOk result (map (λ n. n.now) names.new.items ≡ map (λ n. n.now) names.old.items
+        ++ spec.spreads set.now) }
 {
     for selection in set {
         put_spreads_of(selection, names)?;
@@ -22,7 +23,8 @@ pub fn put_spreads<'a>(set: &'a [Selection], names: &mut Vec<&'a Str>) -> Result
 #[cycle(spread)]
 #[tactic(auto, using(crate::proofs::PartRules::spreads_of_field, crate::proofs::PartRules::spreads_of_spread, crate::proofs::PartRules::spreads_of_inline))]
 fn put_spreads_of<'a>(selection: &'a Selection, names: &mut Vec<&'a Str>) -> Result<(), NoMemory>
-    ensures { OnOk result (map (λ n. n.now) names.new.items ≡ map (λ n. n.now) names.old.items ++ spreads_of selection.now) }
+    ensures { OnOk result (map (λ n. n.now) names.new.items ≡ map (λ n. n.now) names.old.items
+        ++ spreads_of selection.now) }
 {
     match selection {
         Selection::Field { select, .. } => put_spreads(select.as_slice(), names),
@@ -40,7 +42,8 @@ pub fn put_directives<'a>(
     set: &'a [Selection],
     found: &mut Vec<&'a Directive>,
 ) -> Result<(), NoMemory>
-    ensures { OnOk result (map (λ n. n.now) found.new.items ≡ map (λ n. n.now) found.old.items ++ spec.directives_in set.now) }
+    ensures { OnOk result (map (λ n. n.now) found.new.items ≡ map (λ n. n.now) found.old.items
+        ++ spec.directives_in set.now) }
 {
     for selection in set {
         put_directives_of(selection, found)?;
@@ -54,7 +57,8 @@ fn put_directives_of<'a>(
     selection: &'a Selection,
     found: &mut Vec<&'a Directive>,
 ) -> Result<(), NoMemory>
-    ensures { OnOk result (map (λ n. n.now) found.new.items ≡ map (λ n. n.now) found.old.items ++ directives_of selection.now) }
+    ensures { OnOk result (map (λ n. n.now) found.new.items ≡ map (λ n. n.now) found.old.items
+        ++ directives_of selection.now) }
 {
     match selection {
         Selection::Field {
@@ -77,7 +81,8 @@ fn put_both<'a>(
     set: &'a [Selection],
     found: &mut Vec<&'a Directive>,
 ) -> Result<(), NoMemory>
-    ensures { OnOk result (map (λ n. n.now) found.new.items ≡ map (λ n. n.now) found.old.items ++ (directives.now ++ spec.directives_in set.now)) }
+    ensures { OnOk result (map (λ n. n.now) found.new.items ≡ map (λ n. n.now) found.old.items
+        ++ (directives.now ++ spec.directives_in set.now)) }
 {
     put_all(directives, found)?;
     put_directives(set, found)

@@ -1,13 +1,29 @@
 //! What refuses an operation before its fields are collected: unknown fragments, cycles of fragments, and directives.
 
-ghost use Rattle.std.specs.Prelude.{◌≡◌, ◌++◌, ◌||◌, ◌&&◌, not, OnOk, ◌∷◌, [], ℕ, length, map, filter, nat_lt, IfOk, MatchResult, IsTrue, is_none};
+ghost use Rattle.std.specs.Prelude.{
+  ◌≡◌,
+  ◌++◌,
+  ◌||◌,
+  ◌&&◌,
+  not,
+  OnOk,
+  ◌∷◌,
+  [],
+  ℕ,
+  length,
+  map,
+  filter,
+  nat_lt,
+  IfOk,
+  MatchResult,
+  IsTrue,
+  is_none,
+};
 ghost use Rattle.std.specs.List.{list_any};
 ghost use Rattle.request_model.specs.Selection as spec;
-ghost use Rattle.gql_scope.specs.Scopes.{scope_of};
 ghost use Rattle.gql_scope.specs.Walks.{place_of, targets_of, edges_of, fails, some_marked_fails};
 
 use crate::fragments::Fragments;
-use crate::lists::add;
 use crate::operation::{Fragment, Operation};
 use crate::scope::{Scope, is_include, is_skip};
 use crate::spreads::{put_directives, put_spreads};
@@ -44,7 +60,8 @@ fn places_of(
     fragments: &Fragments<'_>,
     names: &[&Str],
 ) -> Result<List<usize>, NoMemory>
-    ensures { IfOk result (λ places. places ≡ filter (λ k. nat_lt k (length fragments.now)) (map (place_of fragments.now) (map (λ n. n.now) names.now))) }
+    ensures { IfOk result (λ places. places ≡ filter (λ k. nat_lt k (length fragments.now))
+        (map (place_of fragments.now) (map (λ n. n.now) names.now))) }
 {
     let mut places = List::new(alloc);
     for name in names {
@@ -63,7 +80,7 @@ fn add_known(places: &mut List<usize>, place: usize, count: usize) -> Result<(),
     if place >= count {
         return Ok(());
     }
-    add(places, place)
+    places.add(place)
 }
 
 pub fn edges_of(alloc: Global, fragments: &Fragments<'_>) -> Result<Vec<List<usize>>, NoMemory>
@@ -77,7 +94,8 @@ pub fn edges_of(alloc: Global, fragments: &Fragments<'_>) -> Result<Vec<List<usi
 }
 
 fn some_unknown(scope: &Scope<'_>, names: &[&Str]) -> bool
-    ensures { result ≡ list_any (λ name. is_none (spec.fragment_named (scope_of scope.now).fragments name)) (map (λ n. n.now) names.now) }
+    ensures { result ≡ list_any (λ name. is_none (spec.fragment_named scope.now.fragments name))
+        (map (λ n. n.now) names.now) }
 {
     for name in names {
         if scope.fragment(name.as_str()).is_none() {
@@ -99,13 +117,14 @@ fn some_stray(directives: &[&Directive]) -> bool
 }
 
 fn has_boolean(scope: &Scope<'_>, directive: &Directive) -> bool
-    ensures { not result ≡ (spec.is_served directive.now && is_none (spec.condition (scope_of scope.now) directive.now)) }
+    ensures { not result ≡ (spec.is_served directive.now && is_none (spec.condition scope.now directive.now)) }
 {
     !is_served(directive) || scope.condition(directive).is_some()
 }
 
 fn some_without_boolean(scope: &Scope<'_>, directives: &[&Directive]) -> bool
-    ensures { result ≡ list_any (λ x. spec.is_served x && is_none (spec.condition (scope_of scope.now) x)) (map (λ n. n.now) directives.now) }
+    ensures { result ≡ list_any (λ x. spec.is_served x && is_none (spec.condition scope.now x))
+        (map (λ n. n.now) directives.now) }
 {
     for directive in directives {
         if !has_boolean(scope, directive) {
@@ -129,7 +148,7 @@ fn fails(
     directives: &[Directive],
     set: &[Selection],
 ) -> Result<bool, NoMemory>
-    ensures { IfOk result (λ failed. failed ≡ fails check (scope_of scope.now) directives.now set.now) }
+    ensures { IfOk result (λ failed. failed ≡ fails check scope.now directives.now set.now) }
 {
     match check {
         Check::Fragments => {
@@ -157,7 +176,8 @@ fn fragment_fails(
     marked: bool,
     fragment: &Fragment<'_>,
 ) -> Result<bool, NoMemory>
-    ensures { IfOk result (λ failed. failed ≡ (marked && fails check (scope_of scope.now) fragment.now.directives fragment.now.select)) }
+    ensures { IfOk result (λ failed. failed ≡ (marked
+        && fails check scope.now fragment.now.directives fragment.now.select)) }
 {
     if marked {
         fails(alloc, scope, check, fragment.directives, fragment.select)
@@ -174,8 +194,9 @@ pub fn reach_fails(
     operation: &Operation<'_>,
     marks: &[bool],
 ) -> Result<bool, NoMemory>
-    requires { length marks.now ≡ length (scope_of scope.now).fragments }
-    ensures { IfOk result (λ failed. failed ≡ (fails check (scope_of scope.now) operation.now.directives operation.now.select || some_marked_fails (λ f. fails check (scope_of scope.now) f.directives f.select) marks.now (scope_of scope.now).fragments)) }
+    requires { length marks.now ≡ length scope.now.fragments }
+    ensures { IfOk result (λ failed. failed ≡ (fails check scope.now operation.now.directives operation.now.select
+        || some_marked_fails (λ f. fails check scope.now f.directives f.select) marks.now scope.now.fragments)) }
 {
     if fails(alloc, scope, check, operation.directives, operation.select)? {
         return Ok(true);

@@ -76,7 +76,7 @@ commits_happened k tx after h e st =
         version = omega (arith, length-append st.transactions (tx ∷ []), st.version);
         database = sym (snapshot-next k.meta.catalog st.transactions tx k.version after st.version (ap (λ (db : Database). apply k.meta.catalog db tx) (sym st.database) ∙ e));
         events = omega (arith, length-append h (Commit tx ∷ []), st.events);
-        taken = st.taken ∙ ap (λ (ts : List Taking). length ts) (sym took);
+        jobs_made = st.jobs_made ∙ ap (λ (ts : List Taking). length ts) (sym took);
         jobs = stay_open k after st.transactions tx h k.jobs st.jobs;
       };
       built = refl;
@@ -93,7 +93,7 @@ refused k = record k { events = k.events + 1 }
 refuses_happened : (k : Kept) (tx : List TxChange) (fault : TxFault) (h : List Event) → apply k.meta.catalog k.database tx ≡ Err fault → StandsFor k h → Happened k (refused k) h (Commit tx) (Declined fault) []
 refuses_happened k tx fault h e st =
     let now : database_now k.meta (state_of k st.transactions) ≡ k.database = ap (λ (n : ℕ). snapshot k.meta.catalog st.transactions n) (sym st.version) ∙ sym st.database in
-    happened k (refused k) (Commit tx) (Declined fault) [] h st (record { meta = refl; events = refl; version = refl; database = refl; taken = refl; jobs = inr (refl, refl); none = λ s. refl }) refl
+    happened k (refused k) (Commit tx) (Declined fault) [] h st (record { meta = refl; events = refl; version = refl; database = refl; jobs_made = refl; jobs = inr (refl, refl); none = λ s. refl }) refl
     (ap (commit tx (state_of k st.transactions)) (ap (λ (db : Database). apply k.meta.catalog db tx) now ∙ e))
 
 pub refuses : (k : Kept) (tx : List TxChange) (fault : TxFault) → apply k.meta.catalog k.database tx ≡ Err fault → Does k (record k { events = k.events + 1 }) (Commit tx) (Declined fault) []

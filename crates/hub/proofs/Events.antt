@@ -32,10 +32,10 @@ use Rattle.hub.proofs.Cohorts.{idle_free, idle_busy}
 
 -- an event that changes nothing but the count of events, or ends the open job
 pub quiet : (a : Inside) (c : Option Connection) (e : Event) (reply : machine.Reply) → ((s : State) → taking_of s reply ≡ []) → ((txs : List (List TxChange)) → is_built a.meta (state_of (seen (record a { connection = c })) txs) e ≡ true) → ((txs : List (List TxChange)) → happens a.meta (state_of (seen (record a { connection = c })) txs) e ≡ record { state = state_of (seen (record a { connection = c; events = a.events + 1 })) txs; reply = reply; queued = []; closed = [] }) → Does (seen (record a { connection = c })) (seen (record a { connection = c; events = a.events + 1 })) e reply []
-quiet a c e reply none built step = does _ _ e reply [] (record { meta = refl; events = refl; version = refl; database = refl; taken = refl; jobs = inr (refl, refl); none = none }) built step
+quiet a c e reply none built step = does _ _ e reply [] (record { meta = refl; events = refl; version = refl; database = refl; jobs_made = refl; jobs = inr (refl, refl); none = none }) built step
 
 pub connects : (a : Inside) (conn : ℕ) (c : Option Connection) → is_some c ≡ false → Does (seen (record a { connection = c })) (seen (record a { connection = Some (record { number = conn; acknowledged = false; queue = []; subscription = None }); events = a.events + 1 })) (Connect conn) Did []
-connects a conn None h = does _ _ (Connect conn) Did [] (record { meta = refl; events = refl; version = refl; database = refl; taken = refl; jobs = inl refl; none = λ s. refl }) (λ txs. refl) (λ txs. refl)
+connects a conn None h = does _ _ (Connect conn) Did [] (record { meta = refl; events = refl; version = refl; database = refl; jobs_made = refl; jobs = inl refl; none = λ s. refl }) (λ txs. refl) (λ txs. refl)
 connects a conn (Some c) h = cc
 
 known_by : (b : Bool) (c : machine.Connection) → is_some (cond b (Some c) None) ≡ b
@@ -99,7 +99,7 @@ ticks_one a c sub (Open number version) h txs = cc
 
 ticks_due_by : (a : Inside) (c : Connection) (sub : Subscription) (st : Standing) → is_idle st ≡ true → Does (seen (record a { connection = Some (record c { subscription = Some (record sub { standing = st }) }) })) (seen (record a { connection = Some (record c { subscription = Some (record sub { standing = Due }) }); events = a.events + 1 })) Tick (Ticked 1) []
 ticks_due_by a c sub st h =
-    does _ _ Tick (Ticked 1) [] (record { meta = refl; events = refl; version = refl; database = refl; taken = refl; jobs = inl refl; none = λ s. refl }) (λ txs. refl) (ticks_one a c sub st h)
+    does _ _ Tick (Ticked 1) [] (record { meta = refl; events = refl; version = refl; database = refl; jobs_made = refl; jobs = inl refl; none = λ s. refl }) (λ txs. refl) (ticks_one a c sub st h)
 
 ticks_due_in : (a : Inside) (c : Connection) (s : Option Subscription) → by_option false (λ sub. is_idle sub.standing) s ≡ true → Does (seen (record a { connection = Some (record c { subscription = s }) })) (seen (record a { connection = Some (record c { subscription = option_map (stands_as Due) s }); events = a.events + 1 })) Tick (Ticked 1) []
 ticks_due_in a c None h = cc
@@ -110,17 +110,17 @@ ticks_due a None h = cc
 ticks_due a (Some c) h = ticks_due_in a c c.subscription h
 
 -- an init on the fresh connection, where no secret is configured
-inits_step : (a : Inside) (conn : ℕ) (queue : List (List ℕ)) (s : Option Subscription) (txs : List (List TxChange)) → a.meta.secret ≡ None → happens a.meta (state_of (seen (record a { connection = Some (record { number = conn; acknowledged = false; queue = queue; subscription = s }) })) txs) (Receive conn (messages.Init None)) ≡ record { state = state_of (seen (record a { connection = Some (record { number = conn; acknowledged = true; queue = queue ++ ack_text ∷ []; subscription = s }); events = a.events + 1 })) txs; reply = Did; queued = record { connection = conn; text = ack_text } ∷ []; closed = [] }
+inits_step : (a : Inside) (conn : ℕ) (queue : List (List ℕ)) (s : Option Subscription) (txs : List (List TxChange)) → a.meta.secret ≡ None → happens a.meta (state_of (seen (record a { connection = Some (record { number = conn; acknowledged = false; queue = queue; subscription = s }) })) txs) (Receive conn (messages.Init None)) ≡ record { state = state_of (seen (record a { connection = Some (record { number = conn; acknowledged = true; queue = queue ++ ack_text ∷ []; subscription = s }); events = a.events + 1 })) txs; reply = Did; queued = record { conn = conn; text = ack_text } ∷ []; closed = [] }
 inits_step a conn queue s txs e = rw (number_own conn, e, number_own conn, number_own conn) refl
 
 inits_built : (a : Inside) (conn : ℕ) (queue : List (List ℕ)) (s : Option Subscription) (txs : List (List TxChange)) → a.meta.secret ≡ None → is_built a.meta (state_of (seen (record a { connection = Some (record { number = conn; acknowledged = false; queue = queue; subscription = s }) })) txs) (Receive conn (messages.Init None)) ≡ true
 inits_built a conn queue s txs e = rw (number_own conn, e) refl
 
-inits_by : (a : Inside) (conn : ℕ) (acknowledged : Bool) (queue : List (List ℕ)) (s : Option Subscription) → acknowledged ≡ false → a.meta.secret ≡ None → Does (seen (record a { connection = Some (record { number = conn; acknowledged = acknowledged; queue = queue; subscription = s }) })) (seen (record a { connection = Some (record { number = conn; acknowledged = true; queue = queue ++ ack_text ∷ []; subscription = s }); events = a.events + 1 })) (Receive conn (messages.Init None)) Did (record { connection = conn; text = ack_text } ∷ [])
+inits_by : (a : Inside) (conn : ℕ) (acknowledged : Bool) (queue : List (List ℕ)) (s : Option Subscription) → acknowledged ≡ false → a.meta.secret ≡ None → Does (seen (record a { connection = Some (record { number = conn; acknowledged = acknowledged; queue = queue; subscription = s }) })) (seen (record a { connection = Some (record { number = conn; acknowledged = true; queue = queue ++ ack_text ∷ []; subscription = s }); events = a.events + 1 })) (Receive conn (messages.Init None)) Did (record { conn = conn; text = ack_text } ∷ [])
 inits_by a conn true queue s h e = cc
 inits_by a conn false queue s h e =
-    does _ _ (Receive conn (messages.Init None)) Did (record { connection = conn; text = ack_text } ∷ [])
-    (record { meta = refl; events = refl; version = refl; database = refl; taken = refl; jobs = inr (refl, refl); none = λ s. refl }) (λ txs. inits_built a conn queue s txs e) (λ txs. inits_step a conn queue s txs e)
+    does _ _ (Receive conn (messages.Init None)) Did (record { conn = conn; text = ack_text } ∷ [])
+    (record { meta = refl; events = refl; version = refl; database = refl; jobs_made = refl; jobs = inr (refl, refl); none = λ s. refl }) (λ txs. inits_built a conn queue s txs e) (λ txs. inits_step a conn queue s txs e)
 
 not_so : (b : Bool) → not b ≡ true → b ≡ false
 not_so true h = cc
@@ -149,7 +149,7 @@ subscribes_by a conn false queue s id request plan h n e = cc
 subscribes_by a conn true queue (Some sub) id request plan h n e = cc
 subscribes_by a conn true queue None id request plan h n e =
     does _ _ (Receive conn (messages.Subscribe id request)) Did []
-    (record { meta = refl; events = refl; version = refl; database = refl; taken = refl; jobs = inl refl; none = λ s. refl }) (λ txs. subscribes_built a conn queue id request plan txs e) (λ txs. subscribes_step a conn queue id request plan txs e)
+    (record { meta = refl; events = refl; version = refl; database = refl; jobs_made = refl; jobs = inl refl; none = λ s. refl }) (λ txs. subscribes_built a conn queue id request plan txs e) (λ txs. subscribes_step a conn queue id request plan txs e)
 
 pub subscribed : (a : Inside) (conn : ℕ) (c : Option Connection) (id : List ℕ) (request : Request) (plan : Plan) → is_free conn c ≡ true → admits a.meta administrator request ≡ Admits (query_of plan) val.Null → Does (seen (record a { connection = c })) (seen (record a { connection = option_map (subscribes (record { id = id; plan = plan; standing = Idle; last = None })) c; events = a.events + 1 })) (Receive conn (messages.Subscribe id request)) Did []
 subscribed a conn None id request plan h e = cc

@@ -8,11 +8,12 @@ use Rattle.data_model.specs.Transactions.{snapshot}
 use Rattle.role_model.specs.declared.metadata.Metadata.{Metadata}
 use Rattle.model.specs.Queries.{Result, result}
 use Rattle.model.specs.State as machine
-use Rattle.model.specs.State.{State, Event, Publish, Published, Queued}
+use Rattle.model.specs.State.{State, Event, Publish, Published}
 use Rattle.model.specs.Values.{same_text}
 use Rattle.model.specs.Publication.{database_of, is_new, publish, publish_live, and_then, close_job}
 use Rattle.model.specs.Batches.{job_at}
 use Rattle.model.specs.Run.{happens}
+use Rattle.model.specs.declared.queued.Queued.{Queued}
 use Rattle.hub.specs.State.{Kept, state_of}
 use Rattle.hub.specs.Stands.{StandsFor, Happened}
 use Rattle.hub.specs.Jobs.{Taking, takings, AnswersOf, AreResults, result_of}
@@ -108,7 +109,7 @@ publishes_open a c sub number version answers h e st an =
     let text : List ℕ = told_text a sub st.transactions version in
     let open_sub : Subscription = record sub { standing = Open number version } in
     let done : Happened (old a c sub number version) (new a (publishes_to c open_sub text)) h (Publish number) (Published version) (publishes_queued c open_sub text) =
-    happened _ _ (Publish number) (Published version) _ h st (record { meta = refl; events = refl; version = refl; database = refl; taken = refl; jobs = inl (no_jobs c open_sub text (next_of open_sub (Some text))); none = λ s. refl }) refl (publish_step a c sub number version st.transactions) in
+    happened _ _ (Publish number) (Published version) _ h st (record { meta = refl; events = refl; version = refl; database = refl; jobs_made = refl; jobs = inl (no_jobs c open_sub text (next_of open_sub (Some text))); none = λ s. refl }) refl (publish_step a c sub number version st.transactions) in
     subst (λ (text : Option (List ℕ)). Publishes a (Some (record c { subscription = Some open_sub })) answers text h) (sym t.0)
     (subst (λ (n : ℕ). Happened (old a c sub number version) (new a (publishes_to c open_sub text)) h (Publish n) (Published answers.version) (publishes_queued c open_sub text)) e
     (subst (λ (v : ℕ). Happened (old a c sub number version) (new a (publishes_to c open_sub text)) h (Publish number) (Published v) (publishes_queued c open_sub text)) (sym t.1) done))

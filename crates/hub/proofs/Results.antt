@@ -14,7 +14,7 @@ use Rattle.data_model.specs.Transactions.{rows_at}
 use Rattle.role_model.specs.declared.metadata.Metadata.{Metadata}
 use Rattle.role_model.specs.JsonFilters.{column_number}
 use Rattle.role_model.specs.Roles.{only_if, table_seen, column_seen}
-use Rattle.model.specs.Values.{joined}
+use Rattle.scalar_val.specs.Joined.{parted}
 use Rattle.model.specs.Queries.{SessionValue, result, result_at, result_on, list_result, pair_text, object_text, value_at, payload_text, is_shown}
 use Rattle.hub.specs.declared.plan.Field.{Field}
 use Rattle.hub.specs.declared.plan.Plan.{Plan}
@@ -70,7 +70,7 @@ pairs_planned table row (f ∷ fields) a =
     ap (λ (t : List ℕ). t ∷ map (pair_text table row) (map (λ (f : Field). f.name) fields)) (pair_planned table row f a.0) ∙ ap (λ (ts : List (List ℕ)). planned_pair row f ∷ ts) (pairs_planned table row fields a.1)
 
 object_planned : (table : TableDef) (fields : List Field) (row : Row) → Numbered table.columns fields → object_text table (map (λ (f : Field). f.name) fields) row ≡ planned_object fields row
-object_planned table fields row a = ap (λ (ts : List (List ℕ)). 123 ∷ joined ts ++ 125 ∷ []) (pairs_planned table row fields a)
+object_planned table fields row a = ap (λ (ts : List (List ℕ)). 123 ∷ parted 44 ts ++ 125 ∷ []) (pairs_planned table row fields a)
 
 objects_planned : (table : TableDef) (fields : List Field) (rows : List Row) → Numbered table.columns fields → map (object_text table (map (λ (f : Field). f.name) fields)) rows ≡ map (planned_object fields) rows
 objects_planned table fields [] a = refl
@@ -86,7 +86,7 @@ all_shown table session (row ∷ rows) = ap (λ (rs : List Row). row ∷ rs) (al
 list_planned : (table : TableDef) (plan : Plan) (rows : List Row) → Numbered table.columns plan.fields → list_result plan.name (map (λ (f : Field). f.name) plan.fields) table (filter (is_shown table [] None) rows) ≡ planned_rows plan rows
 list_planned table plan rows a =
     ap (λ (shown : List Row). list_result plan.name (map (λ (f : Field). f.name) plan.fields) table shown) (all_shown table [] rows)
-    ∙ ap (λ (objects : List (List ℕ)). record { text = payload_text plan.name (91 ∷ joined objects ++ 93 ∷ []); rows = length rows; last = val.Null }) (objects_planned table plan.fields rows a)
+    ∙ ap (λ (objects : List (List ℕ)). record { text = payload_text plan.name (91 ∷ parted 44 objects ++ 93 ∷ []); rows = length rows; last = val.Null }) (objects_planned table plan.fields rows a)
 
 pub result_planned : (meta : Metadata) (plan : Plan) (db : Database) → IsPlan meta plan → result meta (query_of plan) val.Null db ≡ planned plan db
 result_planned meta plan db p =

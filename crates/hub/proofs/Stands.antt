@@ -4,9 +4,10 @@ use mathlib.Core.Logic.{◌⊎◌}
 use Rattle.std.specs.List.{AllByRecursion}
 use Rattle.data_model.specs.declared.transaction.TxChange.{TxChange}
 use Rattle.role_model.specs.declared.metadata.Metadata.{Metadata}
-use Rattle.model.specs.State.{State, Event, Reply, Queued, Job, Step}
+use Rattle.model.specs.State.{State, Event, Reply, Job, Step}
 use Rattle.model.specs.Run.{happens, run}
 use Rattle.model.specs.Built.{is_built}
+use Rattle.model.specs.declared.queued.Queued.{Queued}
 use Rattle.hub.specs.State.{Kept, state_of}
 use Rattle.hub.specs.Jobs.{Taking, taking_of, takings}
 use Rattle.hub.specs.Stands.{IsOpen, StandsFor, Happened, Does}
@@ -18,7 +19,7 @@ pub record StepsTo (k k' : Kept) (e : Event) (reply : Reply) (queued : List Queu
   pub events : k'.events ≡ k.events + 1
   pub version : k'.version ≡ k.version
   pub database : k'.database ≡ k.database
-  pub taken : k'.taken ≡ k.taken
+  pub jobs_made : k'.jobs_made ≡ k.jobs_made
   pub jobs : (k'.jobs ≡ []) ⊎ ((k'.jobs ≡ k.jobs) × (k'.subscriptions ≡ k.subscriptions))
   pub none : (s : State) → taking_of s reply ≡ []
 
@@ -57,7 +58,7 @@ happened k k' e reply queued h st to built step =
         version = to.version ∙ st.version;
         database = rw (to.meta, to.version) (to.database ∙ st.database);
         events = omega (arith, length-append h (e ∷ []), st.events, to.events);
-        taken = rw to.meta (to.taken ∙ st.taken ∙ ap (λ (ts : List Taking). length ts) (sym took));
+        jobs_made = rw to.meta (to.jobs_made ∙ st.jobs_made ∙ ap (λ (ts : List Taking). length ts) (sym took));
         jobs = jobs_after k k' st.transactions h e to.meta to.jobs st.jobs;
       };
       built = ap (λ (s : State). is_built k.meta s e) st.state ∙ built;

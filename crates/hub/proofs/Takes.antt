@@ -48,10 +48,10 @@ abbrev old : Inside → Connection → Subscription → Kept
 old a c sub = seen (record a { connection = Some (record c { subscription = Some (record sub { standing = Due }) }) })
 
 abbrev new : Inside → Connection → Subscription → Kept
-new a c sub = seen (record a { connection = Some (record c { subscription = Some (record sub { standing = Open (a.taken + 1) a.version }) }); taken = a.taken + 1; events = a.events + 1 })
+new a c sub = seen (record a { connection = Some (record c { subscription = Some (record sub { standing = Open (a.jobs_made + 1) a.version }) }); jobs_made = a.jobs_made + 1; events = a.events + 1 })
 
 abbrev job_at_version : Inside → ℕ → machine.Job
-job_at_version a version = record { number = a.taken + 1; version = version; members = first_member ∷ [] }
+job_at_version a version = record { number = a.jobs_made + 1; version = version; members = first_member ∷ [] }
 
 take_step : (a : Inside) (c : Connection) (sub : Subscription) (txs : List (List TxChange)) → 1 ≤ a.meta.batch_size → a.version ≡ length txs → happens a.meta (state_of (old a c sub) txs) Take ≡ record { state = state_of (new a c sub) txs; reply = Taken (job_at_version a a.version); queued = []; closed = [] }
 take_step a c sub txs b e =
@@ -66,9 +66,9 @@ takes_taken a c sub h st b =
     let whole = ap (λ (s : State). happens a.meta s Take) st.state ∙ take_step a c sub st.transactions b st.version in
     takings-push a.meta h Take ∙ ap (λ (s : Step). takings a.meta h ++ taking_of (run a.meta h) s.reply) whole
 
-takes_found : (a : Inside) (c : Connection) (sub : Subscription) (h : List Event) (st : StandsFor (old a c sub) h) → 1 ≤ a.meta.batch_size → slice_get (takings a.meta (h ++ Take ∷ [])) (a.taken + 1 - 1) ≡ Some (taking_at a h)
+takes_found : (a : Inside) (c : Connection) (sub : Subscription) (h : List Event) (st : StandsFor (old a c sub) h) → 1 ≤ a.meta.batch_size → slice_get (takings a.meta (h ++ Take ∷ [])) (a.jobs_made + 1 - 1) ≡ Some (taking_at a h)
 takes_found a c sub h st b =
-    let place : a.taken + 1 - 1 ≡ length (takings a.meta h) = omega (arith, st.taken) in
+    let place : a.jobs_made + 1 - 1 ≡ length (takings a.meta h) = omega (arith, st.jobs_made) in
     rw (place, takes_taken a c sub h st b) (slice_get-push (takings a.meta h) (taking_at a h))
 
 takes_database : (a : Inside) (c : Connection) (sub : Subscription) (h : List Event) (st : StandsFor (old a c sub) h) → snapshot a.meta.catalog st.transactions a.version ≡ database_of a.meta (run a.meta h) (job_at_version a a.version)
@@ -85,7 +85,7 @@ takes_happened a c sub h b st =
         version = st.version;
         database = st.database;
         events = omega (arith, length-append h (Take ∷ []), st.events);
-        taken = rw (takes_taken a c sub h st b) (omega (arith, length-append (takings a.meta h) (taking_at a h ∷ []), st.taken));
+        jobs_made = rw (takes_taken a c sub h st b) (omega (arith, length-append (takings a.meta h) (taking_at a h ∷ []), st.jobs_made));
         jobs = (
           record {
             taking = taking_at a h;
@@ -110,7 +110,7 @@ takes_results a c sub h st p =
     ∙ ap (λ (r : Result). Some r) (result_planned a.meta sub.plan a.snapshot.tables p))
 
 abbrev job_with : Inside → Subscription → Job
-job_with a sub = record { number = a.taken + 1; version = a.version; snapshot = a.snapshot; plan = sub.plan; members = record { sub = 1; id = 1 } ∷ [] }
+job_with a sub = record { number = a.jobs_made + 1; version = a.version; snapshot = a.snapshot; plan = sub.plan; members = record { sub = 1; id = 1 } ∷ [] }
 
 takes_job : (a : Inside) (c : Connection) (sub : Subscription) (h : List Event) → 1 ≤ a.meta.batch_size → a.snapshot.catalog ≡ a.meta.catalog → IsPlan a.meta sub.plan → StandsFor (old a c sub) h → JobOf a.meta (job_with a sub) (h ++ Take ∷ [])
 takes_job a c sub h b cat p st = record {
@@ -124,13 +124,13 @@ takes_job a c sub h b cat p st = record {
 
 abbrev Takes : Inside → Option Connection → Option Connection → Plan → Type 0
 Takes a c c' plan =
-    Does (seen (record a { connection = c })) (seen (record a { connection = c'; taken = a.taken + 1; events = a.events + 1 })) Take (Taken (job_of (record { number = a.taken + 1; version = a.version; snapshot = a.snapshot; plan = plan; members = record { sub = 1; id = 1 } ∷ [] }))) []
-    × ((h : List Event) → StandsFor (seen (record a { connection = c })) h → JobOf a.meta (record { number = a.taken + 1; version = a.version; snapshot = a.snapshot; plan = plan; members = record { sub = 1; id = 1 } ∷ [] }) (h ++ Take ∷ []))
+    Does (seen (record a { connection = c })) (seen (record a { connection = c'; jobs_made = a.jobs_made + 1; events = a.events + 1 })) Take (Taken (job_of (record { number = a.jobs_made + 1; version = a.version; snapshot = a.snapshot; plan = plan; members = record { sub = 1; id = 1 } ∷ [] }))) []
+    × ((h : List Event) → StandsFor (seen (record a { connection = c })) h → JobOf a.meta (record { number = a.jobs_made + 1; version = a.version; snapshot = a.snapshot; plan = plan; members = record { sub = 1; id = 1 } ∷ [] }) (h ++ Take ∷ []))
     × (plan.table < length a.snapshot.catalog.tables)
-    × (a.taken + 1 ≡ a.taken + 1)
+    × (a.jobs_made + 1 ≡ a.jobs_made + 1)
     × (length (due_of c') < length (due_of c))
 
-takes_due : (a : Inside) (c : Connection) (sub : Subscription) → 1 ≤ a.meta.batch_size → a.snapshot.catalog ≡ a.meta.catalog → IsPlan a.meta sub.plan → Takes a (Some (record c { subscription = Some (record sub { standing = Due }) })) (Some (record c { subscription = Some (record sub { standing = Open (a.taken + 1) a.version }) })) sub.plan
+takes_due : (a : Inside) (c : Connection) (sub : Subscription) → 1 ≤ a.meta.batch_size → a.snapshot.catalog ≡ a.meta.catalog → IsPlan a.meta sub.plan → Takes a (Some (record c { subscription = Some (record sub { standing = Due }) })) (Some (record c { subscription = Some (record sub { standing = Open (a.jobs_made + 1) a.version }) })) sub.plan
 takes_due a c sub b cat p = (
   record { meta = refl; events = refl; happened = λ h st. takes_happened a c sub h b st },
   λ h. takes_job a c sub h b cat p,
@@ -139,15 +139,15 @@ takes_due a c sub b cat p = (
   omega arith,
 )
 
-takes_by : (a : Inside) (c : Connection) (sub : Subscription) (st : Standing) (plan : Plan) → Some plan ≡ plan_if sub.plan st → 1 ≤ a.meta.batch_size → a.snapshot.catalog ≡ a.meta.catalog → IsPlan a.meta sub.plan → Takes a (Some (record c { subscription = Some (record sub { standing = st }) })) (Some (record c { subscription = Some (record sub { standing = Open (a.taken + 1) a.version }) })) plan
+takes_by : (a : Inside) (c : Connection) (sub : Subscription) (st : Standing) (plan : Plan) → Some plan ≡ plan_if sub.plan st → 1 ≤ a.meta.batch_size → a.snapshot.catalog ≡ a.meta.catalog → IsPlan a.meta sub.plan → Takes a (Some (record c { subscription = Some (record sub { standing = st }) })) (Some (record c { subscription = Some (record sub { standing = Open (a.jobs_made + 1) a.version }) })) plan
 takes_by a c sub Idle plan h b cat p = cc
-takes_by a c sub Due plan h b cat p = subst (Takes a (Some (record c { subscription = Some (record sub { standing = Due }) })) (Some (record c { subscription = Some (record sub { standing = Open (a.taken + 1) a.version }) }))) (same_Some sub.plan plan (sym h)) (takes_due a c sub b cat p)
+takes_by a c sub Due plan h b cat p = subst (Takes a (Some (record c { subscription = Some (record sub { standing = Due }) })) (Some (record c { subscription = Some (record sub { standing = Open (a.jobs_made + 1) a.version }) }))) (same_Some sub.plan plan (sym h)) (takes_due a c sub b cat p)
 takes_by a c sub (Open number version) plan h b cat p = cc
 
-takes_in : (a : Inside) (c : Connection) (s : Option Subscription) (plan : Plan) → Some plan ≡ by_option None (λ sub. plan_if sub.plan sub.standing) s → 1 ≤ a.meta.batch_size → a.snapshot.catalog ≡ a.meta.catalog → PlannedBy a.meta s → Takes a (Some (record c { subscription = s })) (Some (record c { subscription = option_map (stands_as (Open (a.taken + 1) a.version)) s })) plan
+takes_in : (a : Inside) (c : Connection) (s : Option Subscription) (plan : Plan) → Some plan ≡ by_option None (λ sub. plan_if sub.plan sub.standing) s → 1 ≤ a.meta.batch_size → a.snapshot.catalog ≡ a.meta.catalog → PlannedBy a.meta s → Takes a (Some (record c { subscription = s })) (Some (record c { subscription = option_map (stands_as (Open (a.jobs_made + 1) a.version)) s })) plan
 takes_in a c None plan h b cat p = cc
 takes_in a c (Some sub) plan h b cat p = takes_by a c sub sub.standing plan h b cat p
 
-pub takes : (a : Inside) (c : Option Connection) (plan : Plan) → Some plan ≡ by_subscription None (λ sub. plan_if sub.plan sub.standing) c → 1 ≤ a.meta.batch_size → a.snapshot.catalog ≡ a.meta.catalog → Planned a.meta c → Takes a c (option_map (changed (stands_as (Open (a.taken + 1) a.version))) c) plan
+pub takes : (a : Inside) (c : Option Connection) (plan : Plan) → Some plan ≡ by_subscription None (λ sub. plan_if sub.plan sub.standing) c → 1 ≤ a.meta.batch_size → a.snapshot.catalog ≡ a.meta.catalog → Planned a.meta c → Takes a c (option_map (changed (stands_as (Open (a.jobs_made + 1) a.version))) c) plan
 takes a None plan h b cat p = cc
 takes a (Some c) plan h b cat p = takes_in a c c.subscription plan h b cat p

@@ -4,6 +4,7 @@ use Rattle.std.specs.Option.{option_map, is_some}
 use Rattle.model.specs.Messages.{next_text}
 use Rattle.model.specs.Publication.{is_new}
 use Rattle.model.specs.State as state
+use Rattle.model.specs.declared.queued.Queued.{Queued}
 use Rattle.hub.specs.declared.job.Outcome.{Outcome}
 use Rattle.hub.specs.declared.plan.Plan.{Plan}
 use Rattle.hub.specs.declared.parts.Connection.{Connection}
@@ -60,9 +61,9 @@ remembered (Some text) connection = option_map (changed (remembers text)) connec
 abbrev pub queues : List ℕ → Connection → Connection
 queues text c = record c { queue = c.queue ++ text ∷ [] }
 
-abbrev pub queued_on : List ℕ → Option Connection → List state.Queued
+abbrev pub queued_on : List ℕ → Option Connection → List Queued
 queued_on text None = []
-queued_on text (Some c) = record { connection = c.number; text = text } ∷ []
+queued_on text (Some c) = record { conn = c.number; text = text } ∷ []
 
 abbrev pub next_for : Option (List ℕ) → Option Connection → Option (List ℕ)
 next_for text connection = by_subscription None (λ sub. next_of sub text) connection
@@ -72,7 +73,7 @@ abbrev pub told_with : Option (List ℕ) → Option Connection → Option Connec
 told_with None connection = connection
 told_with (Some text) connection = option_map (queues text) connection
 
-abbrev pub queued_with : Option (List ℕ) → Option Connection → List state.Queued
+abbrev pub queued_with : Option (List ℕ) → Option Connection → List Queued
 queued_with None connection = []
 queued_with (Some text) connection = queued_on text connection
 

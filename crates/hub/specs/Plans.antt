@@ -4,12 +4,13 @@ use Rattle.json.specs.Print.{quoted}
 use Rattle.std.specs.List.{AllByRecursion}
 use Rattle.scalar_val.specs.declared.val.Val.TheVariants as val
 use Rattle.scalar_val.specs.ValText.{val_text}
-use Rattle.data_model.specs.Rows.{Database, Row, cell}
+use Rattle.scalar_val.specs.Values.{cell}
+use Rattle.data_model.specs.Rows.{Database, Row}
 use Rattle.data_model.specs.Transactions.{rows_at}
 use Rattle.role_model.specs.declared.metadata.Metadata.{Metadata}
 use Rattle.role_model.specs.declared.session.Session.{Session}
 use Rattle.role_model.specs.Roles.{View, table_seen, column_seen}
-use Rattle.model.specs.Values.{joined}
+use Rattle.scalar_val.specs.Joined.{parted}
 use Rattle.model.specs.Queries.{Query, Columns, SubscriptionWord, Live, Result, payload_text, view_of}
 use Rattle.model.specs.Admission.{Admission, Admits, sees_columns}
 use Rattle.model.specs.Built.{is_admitted}
@@ -21,10 +22,10 @@ abbrev pub planned_pair : Row → Field → List ℕ
 planned_pair row field = quoted field.name ++ 58 ∷ val_text (cell row field.place)
 
 abbrev pub planned_object : List Field → Row → List ℕ
-planned_object fields row = 123 ∷ joined (map (planned_pair row) fields) ++ 125 ∷ []
+planned_object fields row = 123 ∷ parted 44 (map (planned_pair row) fields) ++ 125 ∷ []
 
 abbrev pub planned_rows : Plan → List Row → Result
-planned_rows plan rows = record { text = payload_text plan.name (91 ∷ joined (map (planned_object plan.fields) rows) ++ 93 ∷ []); rows = length rows; last = val.Null }
+planned_rows plan rows = record { text = payload_text plan.name (91 ∷ parted 44 (map (planned_object plan.fields) rows) ++ 93 ∷ []); rows = length rows; last = val.Null }
 
 -- what a plan gives on a database: all rows of its table
 abbrev pub planned : Plan → Database → Result

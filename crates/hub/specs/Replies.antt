@@ -6,7 +6,6 @@ use Rattle.model.specs.Messages.{Message}
 use Rattle.model.specs.Batches.{job_at}
 use Rattle.model.specs.Run.{run}
 use Rattle.model.specs.Built.{is_built, knows}
-use Rattle.model.specs.Shown.{queued_of}
 use Rattle.hub.specs.State.{Kept}
 use Rattle.hub.specs.Jobs.{job_of, Fits, JobOf, AnswersOf}
 use Rattle.hub.specs.Stands.{StandsFor, Happened, Does}
@@ -29,7 +28,7 @@ Knows k c = (h : List Event) → StandsFor k h → knows (run k.meta h) c ≡ tr
 
 -- the event was done or answered, or it isn't built yet and nothing has changed
 abbrev pub ConnAnswers : Kept → Kept → Event → ConnReply → Type 0
-ConnAnswers k k' e (conn.Did effect) = Does k k' e Did (map queued_of effect.queued)
+ConnAnswers k k' e (conn.Did effect) = Does k k' e Did effect.queued
 ConnAnswers k k' e conn.ConnKnown = Does k k' e ConnectionKnown []
 ConnAnswers k k' e conn.ConnUnknown = Does k k' e ConnectionUnknown []
 ConnAnswers k k' e conn.Unbuilt = (k' ≡ k) × NotBuilt k e
@@ -53,7 +52,7 @@ CommitAnswers k k' tx (commit.Refused fault) = Does k k' (Commit tx) (Declined f
 -- A job of the next number was taken, whose plan reads a table that is there, and fewer are due; or nobody was due.
 abbrev pub TakeAnswers : Kept → Kept → Option Job → Type 0
 TakeAnswers k k' (Some job) =
-    Does k k' Take (Taken (job_of job)) [] × ((h : List Event) → StandsFor k h → JobOf k.meta job (h ++ Take ∷ [])) × Fits job × (k'.taken ≡ job.number) × (length k'.due < length k.due)
+    Does k k' Take (Taken (job_of job)) [] × ((h : List Event) → StandsFor k h → JobOf k.meta job (h ++ Take ∷ [])) × Fits job × (k'.jobs_made ≡ job.number) × (length k'.due < length k.due)
 TakeAnswers k k' None = Does k k' Take Nobody [] × (k.due ≡ [])
 
 -- The job wasn't open; or it was, and where the answers are those of a job that was taken, they are published. A job is
@@ -62,5 +61,5 @@ abbrev pub PublishAnswers : Kept → Kept → Answers → PublishReply → Type 
 PublishAnswers k k' answers publish.NotOpen = Does k k' (Publish answers.number) NotOpen [] × (k'.due ≡ k.due)
 PublishAnswers k k' answers (publish.Published queued) =
     (k'.meta ≡ k.meta) × (k'.events ≡ k.events + 1) × (k'.due ≡ k.due)
-    × ((h : List Event) → StandsFor k h → AnswersOf k.meta answers h → Happened k k' h (Publish answers.number) (Published answers.version) (map queued_of queued))
+    × ((h : List Event) → StandsFor k h → AnswersOf k.meta answers h → Happened k k' h (Publish answers.number) (Published answers.version) queued)
     × (is_some (job_at answers.number k.jobs) ≡ true)

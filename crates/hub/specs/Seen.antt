@@ -67,7 +67,7 @@ seen a = record {
   subscriptions = subscriptions_of a.connection;
   due = due_of a.connection;
   jobs = jobs_of a.connection;
-  taken = a.taken;
+  jobs_made = a.jobs_made;
   events = a.events;
 }
 
@@ -84,5 +84,5 @@ Planned meta (Some c) = PlannedBy meta c.subscription
 pub record IsSound (a : Inside) : Type 0 where
   pub catalog : a.snapshot.catalog ≡ a.meta.catalog
   pub version : a.version ≤ a.events
-  pub taken : a.taken ≤ a.events
+  pub jobs_made : a.jobs_made ≤ a.events
   pub plan : Planned a.meta a.connection

@@ -3,10 +3,11 @@ use Rattle.std.specs.Prelude.{◌≡◌, ◌-◌, ◌+◌, ◌≤◌, true, Some
 use Rattle.std.specs.List.{AllByRecursion}
 use Rattle.data_model.specs.declared.transaction.TxChange.{TxChange}
 use Rattle.data_model.specs.Transactions.{snapshot}
-use Rattle.model.specs.State.{Event, Reply, Queued, Job}
+use Rattle.model.specs.State.{Event, Reply, Job}
 use Rattle.model.specs.Publication.{database_of}
 use Rattle.model.specs.Run.{happens, run}
 use Rattle.model.specs.Built.{is_built}
+use Rattle.model.specs.declared.queued.Queued.{Queued}
 use Rattle.hub.specs.State.{Kept, state_of}
 use Rattle.hub.specs.Jobs.{Taking, takings}
 
@@ -26,7 +27,7 @@ pub record StandsFor (k : Kept) (h : List Event) : Type 0 where
   pub version : k.version ≡ length transactions
   pub database : k.database ≡ snapshot k.meta.catalog transactions k.version
   pub events : k.events ≡ length h
-  pub taken : k.taken ≡ length (takings k.meta h)
+  pub jobs_made : k.jobs_made ≡ length (takings k.meta h)
   pub jobs : AllByRecursion (IsOpen k transactions h) k.jobs
 
 -- A hub did an event after a history that it stood for: it stands for the longer history, and what it answered and

@@ -15,12 +15,12 @@ pub record Kept : Type 0 where
   pub subscriptions : List Subscription
   pub due : List ℕ
   pub jobs : List Job
-  pub taken : ℕ
+  pub jobs_made : ℕ
   pub events : ℕ
 
 -- the machine's state with what is kept and these transactions
 abbrev pub state_of : Kept → List (List TxChange) → State
-state_of k txs = record { transactions = txs; connections = k.connections; subscriptions = k.subscriptions; due = k.due; jobs = k.jobs; taken = k.taken }
+state_of k txs = record { transactions = txs; connections = k.connections; subscriptions = k.subscriptions; due = k.due; jobs = k.jobs; jobs_made = k.jobs_made }
 
 -- whether a connection is known to what is kept
 abbrev pub knows_in : Kept → ℕ → Bool

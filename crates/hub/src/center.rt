@@ -35,7 +35,7 @@ pub struct Hub {
     snapshot: Snapshot,
     version: u64,
     connection: Option<Connection>,
-    taken: u64,
+    jobs_made: u64,
     events: u64,
 }
 
@@ -69,7 +69,7 @@ impl Hub {
             snapshot,
             version: 0,
             connection: None,
-            taken: 0,
+            jobs_made: 0,
             events: 0,
         })
     }
@@ -249,9 +249,9 @@ impl Hub {
         let snapshot = self.snapshot.share(alloc)?;
         let members = one_member(alloc)?;
         let version = self.version;
-        self.taken += 1;
+        self.jobs_made += 1;
         self.events += 1;
-        let number = self.taken;
+        let number = self.jobs_made;
         stand(&mut self.connection, Standing::Open { number, version });
         Ok(Some(Job {
             number,

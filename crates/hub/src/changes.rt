@@ -1,6 +1,5 @@
 ghost use Rattle.std.specs.Prelude.{◌≡◌, Some, None, false, map, IfOk, OnOk, OnErr, IfErr};
 ghost use Rattle.std.specs.Option.{option_map};
-ghost use Rattle.model.specs.Shown.{queued_of};
 ghost use Rattle.hub.specs.declared.plan.Plan.{Plan};
 ghost use Rattle.model.specs.Publication.{is_new};
 ghost use Rattle.hub.specs.Parts.{by_subscription, changed, stands_as, is_idle, plan_if, has_number, first_text, next_of, remembers, remembered, queues, queued_on, next_for, told_with, queued_with, is_known, is_fresh, is_free, acknowledges, subscribes};
@@ -166,7 +165,7 @@ fn into_first(outcomes: List<Outcome>) -> Option<Bytes>
 
 fn queue_in(alloc: Global, connection: &mut Connection, text: Bytes) -> Result<QueuedList, NoMemory>
     ensures after { OnOk result (connection.new ≡ queues text connection.old) }
-    ensures queued { IfOk result (λ queued. map queued_of queued ≡ queued_on text (Some connection.old)) }
+    ensures queued { IfOk result (λ queued. queued ≡ queued_on text (Some connection.old)) }
     ensures err { OnErr result (connection.new ≡ connection.old) }
 {
     let kept = copy(alloc, text.as_slice())?;
@@ -191,7 +190,7 @@ pub fn queue_text(
     text: Bytes,
 ) -> Result<QueuedList, NoMemory>
     ensures after { OnOk result (connection.new ≡ option_map (queues text) connection.old) }
-    ensures queued { IfOk result (λ queued. map queued_of queued ≡ queued_on text connection.old) }
+    ensures queued { IfOk result (λ queued. queued ≡ queued_on text connection.old) }
     ensures err { OnErr result (connection.new ≡ connection.old) }
 {
     match connection {
@@ -207,7 +206,7 @@ pub fn tell(
     outcomes: &[Outcome],
 ) -> Result<QueuedList, NoMemory>
     ensures after { OnOk result (connection.new ≡ told_with (next_for (first_text outcomes.now) connection.old) connection.old) }
-    ensures queued { IfOk result (λ queued. map queued_of queued ≡ queued_with (next_for (first_text outcomes.now) connection.old) connection.old) }
+    ensures queued { IfOk result (λ queued. queued ≡ queued_with (next_for (first_text outcomes.now) connection.old) connection.old) }
     ensures err { OnErr result (connection.new ≡ connection.old) }
 {
     match next_of(alloc, connection, outcomes)? {

@@ -1,9 +1,9 @@
 ghost use Rattle.std.specs.Prelude.{◌≡◌, ◌+◌, ◌<◌, ◌≤◌, ◌++◌, [], ◌∷◌, List, length, map, IfOk, OnOk};
 ghost use Rattle.json.specs.Print.{quoted};
-ghost use Rattle.data_model.specs.Rows.{cell};
+ghost use Rattle.scalar_val.specs.Values.{cell};
 ghost use Rattle.data_model.specs.Transactions.{rows_at};
 ghost use Rattle.role_model.specs.declared.metadata.Metadata.{Metadata};
-ghost use Rattle.model.specs.Values.{joined};
+ghost use Rattle.scalar_val.specs.Joined.{parted};
 ghost use Rattle.model.specs.State.{Event};
 ghost use Rattle.hub.specs.Plans.{planned_pair, planned_object, planned};
 ghost use Rattle.hub.specs.Jobs.{Fits, JobOf, AnswersOf, evaluated, reads, result_of};
@@ -11,7 +11,7 @@ ghost use Rattle.hub.specs.Jobs.{Fits, JobOf, AnswersOf, evaluated, reads, resul
 use crate::job::{Job, Outcome, OutcomeList};
 use crate::plan::{Field, Plan};
 use row_store::{Row, Scan, Snapshot};
-use scalar_val::{Bytes, List, NoMemory, Steps, Val, write_json, write_quoted};
+use scalar_val::{Bytes, List, NoMemory, Steps, Val, cell, write_json, write_quoted};
 use std::alloc::Global;
 use std::sync::ledger::Ledger;
 
@@ -22,29 +22,18 @@ fn append(out: &mut Vec<u8>, bytes: &[u8]) -> Result<(), NoMemory>
     Ok(())
 }
 
-/// A row's value in a column, or null past its end.
-fn cell<'a>(row: &'a Row, column: u32, null: &'a Val) -> &'a Val
-    requires { null.now ≡ Val.Null }
-    ensures { result.now ≡ cell row.now column }
-{
-    match row.cells().get(column as usize) {
-        Some(val) => val,
-        None => null,
-    }
-}
-
 fn write_pair(field: &Field, row: &Row, out: &mut Vec<u8>) -> Result<(), NoMemory>
     ensures { OnOk result (out.new.items ≡ out.old.items ++ planned_pair row.now field.now) }
 {
     write_quoted(field.name.as_str(), out)?;
     out.push(b':')?;
     let null = Val::Null;
-    write_json(cell(row, field.place, &null), out)?;
+    write_json(cell(row.cells(), field.place, &null), out)?;
     Ok(())
 }
 
 fn write_pairs(fields: &[Field], row: &Row, out: &mut Vec<u8>) -> Result<(), NoMemory>
-    ensures { OnOk result (out.new.items ≡ out.old.items ++ joined (map (planned_pair row.now) fields.now)) }
+    ensures { OnOk result (out.new.items ≡ out.old.items ++ parted 44 (map (planned_pair row.now) fields.now)) }
 {
     let mut first = true;
     for field in fields {
@@ -75,7 +64,7 @@ fn write_objects<L: Ledger>(
     out: &mut Vec<u8>,
     steps: &mut Steps<L>,
 ) -> Result<u64, NoMemory>
-    ensures objects { OnOk result (out.new.items ≡ out.old.items ++ joined (map (planned_object fields.now) rows.entry)) }
+    ensures objects { OnOk result (out.new.items ≡ out.old.items ++ parted 44 (map (planned_object fields.now) rows.entry)) }
     ensures count { IfOk result (λ count. count ≡ length rows.entry) }
     ensures steps { steps.new ≤ steps.old + length rows.entry }
 {

@@ -2,7 +2,7 @@ ghost use Rattle.std.specs.Prelude.{◌≡◌, ◌++◌, [], ◌∷◌, map, IfO
 ghost use Rattle.std.specs.List.{flat_map};
 ghost use Rattle.model.specs.Forms.{subscribe_text};
 ghost use Rattle.model.specs.Admission.{query_text};
-ghost use Rattle.model.specs.Queries.{spaced};
+ghost use Rattle.scalar_val.specs.Joined.{parted};
 ghost use Rattle.model.specs.Messages.{next_text, ack_text};
 
 use scalar_val::{Bytes, NoMemory, write_quoted};
@@ -38,7 +38,7 @@ pub fn subscribe_text(alloc: Global, id: &str, query: &str) -> Result<Vec<u8>, N
 }
 
 fn append_spaced(out: &mut Vec<u8>, words: &[&str]) -> Result<(), NoMemory>
-    ensures { OnOk result (out.new.items ≡ out.old.items ++ spaced (map (λ w. w.now) words.now)) }
+    ensures { OnOk result (out.new.items ≡ out.old.items ++ parted 32 (map (λ w. w.now) words.now)) }
 {
     let mut first = true;
     for word in words {

@@ -10,15 +10,16 @@ use Rattle.json_out.specs.declared.node.JNode.TheVariants as node
 use Rattle.json_out.specs.declared.node.JNode.TheVariants.{rolls-Scalar, rolls-List, rolls-Object}
 use Rattle.json_out.specs.declared.node.JPair.{JPair}
 use Rattle.json_out.specs.declared.node.JNode.TheFolds.{fold-roll-JNode, fold_out-JPair}
-use Rattle.json_out.specs.Text.{text, pair_text, node_step, pair_step, joined}
+use Rattle.scalar_val.specs.Joined.{parted}
+use Rattle.json_out.specs.Text.{text, pair_text, node_step, pair_step}
 
 pub text-Scalar : (v : Val) → text (node.Scalar v) ≡ val_text v
 text-Scalar v = ap text (sym (rolls-Scalar v)) ∙ fold-roll-JNode (List ℕ) (List ℕ) node_step pair_step _
 
-pub text-List : (xs : List JNode) → text (node.List xs) ≡ 91 ∷ joined (map text xs) ++ 93 ∷ []
+pub text-List : (xs : List JNode) → text (node.List xs) ≡ 91 ∷ parted 44 (map text xs) ++ 93 ∷ []
 text-List xs = ap text (sym (rolls-List xs)) ∙ fold-roll-JNode (List ℕ) (List ℕ) node_step pair_step _
 
-pub text-Object : (xs : List JPair) → text (node.Object xs) ≡ 123 ∷ joined (map pair_text xs) ++ 125 ∷ []
+pub text-Object : (xs : List JPair) → text (node.Object xs) ≡ 123 ∷ parted 44 (map pair_text xs) ++ 125 ∷ []
 text-Object xs = ap text (sym (rolls-Object xs)) ∙ fold-roll-JNode (List ℕ) (List ℕ) node_step pair_step _
 
 pub pair_text-is : (p : JPair) → pair_text p ≡ quoted p.key ++ 58 ∷ text p.value

@@ -1,26 +1,18 @@
 -- The compact JSON text of a node (RFC 8259): no spaces, pairs in order.
 use Rattle.std.specs.Prelude.{ℕ, List, [], ◌∷◌, ◌++◌}
-use Rattle.std.specs.List.{flat_map}
 use Rattle.json.specs.Print.{quoted}
+use Rattle.scalar_val.specs.Joined.{parted}
 use Rattle.scalar_val.specs.ValText.{val_text}
 use Rattle.json_out.specs.declared.node.JNode.{JNode}
 use Rattle.json_out.specs.declared.node.JPair.{JPair}
 use Rattle.json_out.specs.declared.node.JNode.TheOpen.{JNode-F, JPair-F}
 use Rattle.json_out.specs.declared.node.JNode.TheFolds.{fold-JNode, fold-JPair}
 
-abbrev pub after_comma : List ℕ → List ℕ
-after_comma t = 44 ∷ t
-
--- texts with a comma between each two
-abbrev pub joined : List (List ℕ) → List ℕ
-joined [] = []
-joined (t ∷ ts) = t ++ flat_map after_comma ts
-
 -- a scalar, an array or an object, with the text of each part in its place
 abbrev pub node_step : JNode-F (List ℕ) (List ℕ) → List ℕ
 node_step (JNode-F.Scalar v) = val_text v
-node_step (JNode-F.List ts) = 91 ∷ joined ts ++ 93 ∷ []
-node_step (JNode-F.Object ts) = 123 ∷ joined ts ++ 125 ∷ []
+node_step (JNode-F.List ts) = 91 ∷ parted 44 ts ++ 93 ∷ []
+node_step (JNode-F.Object ts) = 123 ∷ parted 44 ts ++ 125 ∷ []
 
 -- a pair, with the text of its value in its place
 abbrev pub pair_step : JPair-F (List ℕ) (List ℕ) → List ℕ

@@ -1,7 +1,8 @@
 ghost use Rattle.std.specs.Prelude.{◌≡◌, ◌++◌, ◌∷◌, map, IfOk, OnOk, OnErr};
 ghost use Rattle.std.specs.List.{flat_map};
 ghost use Rattle.json.specs.Print.{quoted};
-ghost use Rattle.json_out.specs.Text.{text, pair_text, joined, after_comma};
+ghost use Rattle.scalar_val.specs.Joined.{parted};
+ghost use Rattle.json_out.specs.Text.{text, pair_text};
 
 use crate::node::{JNode, JPair};
 use scalar_val::{Bytes, NoMemory, write_json, write_quoted};
@@ -47,7 +48,7 @@ fn write_node(node: &JNode, out: &mut Vec<u8>) -> Result<(), NoMemory>
 
 #[cycle(write)]
 fn write_list(items: &[JNode], out: &mut Vec<u8>) -> Result<(), NoMemory>
-    ensures { OnOk result (out.new.items ≡ out.old.items ++ joined (map text items.now)) }
+    ensures { OnOk result (out.new.items ≡ out.old.items ++ parted 44 (map text items.now)) }
 {
     let mut first = true;
     for item in items {
@@ -72,7 +73,7 @@ fn write_pair(pair: &JPair, out: &mut Vec<u8>) -> Result<(), NoMemory>
 
 #[cycle(write)]
 fn write_pairs(pairs: &[JPair], out: &mut Vec<u8>) -> Result<(), NoMemory>
-    ensures { OnOk result (out.new.items ≡ out.old.items ++ joined (map pair_text pairs.now)) }
+    ensures { OnOk result (out.new.items ≡ out.old.items ++ parted 44 (map pair_text pairs.now)) }
 {
     let mut first = true;
     for pair in pairs {

@@ -4,7 +4,7 @@ use Rattle.std.specs.Str.{IsUtf8, is_utf8}
 use Rattle.std.proofs.lemmas.Str.{IsUtf8-from_is_utf8, is_utf8-from_IsUtf8}
 use Rattle.toml.specs.Data.{Members}
 use Rattle.toml.specs.Parse.{parse_document}
-use Rattle.role_model.specs.MetadataFaults.{toml_of}
+use Rattle.role_model.specs.MetadataMeaning.{toml_of}
 
 pub toml_of-some : (text : List ℕ) (ms : Members) → IsUtf8 text → parse_document text ≡ Some ms → toml_of text ≡ Some ms
 toml_of-some text ms h e = rw (is_utf8-from_IsUtf8 text h) e

@@ -1,7 +1,8 @@
 ghost use Rattle.std.specs.Prelude.{◌≡◌, Some, None, Err, IfOk};
 ghost use Rattle.toml.specs.Data.{as_table};
 ghost use Rattle.toml.specs.View.{view, table_view};
-ghost use Rattle.role_model.specs.MetadataForm.{column_in, column_of, link_in, link_of, permission_in, permission_of, table_in, table_of, document_in, document_of};
+ghost use Rattle.role_model.specs.MetadataForm.{column_in, column_of, link_in, link_of, permission_in, permission_of};
+ghost use Rattle.role_model.specs.MetadataForm.{table_in, table_of, document_in, document_of};
 
 use crate::form::{
     FormFault, FromToml, bool_or, filled_list_at, filled_text_at, filled_text_if_any, has_only,
@@ -158,7 +159,8 @@ fn read_keys(alloc: Global, table: &Table) -> Result<Document, FormFault>
     })
 }
 
-/// Metadata with the right keys, or the fault of its form.
+/// The metadata document that a table of TOML is, with the defaults of the keys that it leaves out. `Form` where a key
+/// is unknown or missing, or a value is of another type or out of its range; `NoMemory` where memory is refused.
 pub fn read_document(alloc: Global, table: &Table) -> Result<Document, FormFault>
     ensures ok { IfOk result (λ x. document_of (table_view table.now) ≡ Some x) }
     ensures bad { result ≡ Err FormFault.Form → document_of (table_view table.now) ≡ None }

@@ -5,16 +5,19 @@ ghost use Rattle.serde_json.specs.Read.{read};
 ghost use Rattle.serde_json.specs.View.{view as json_view};
 ghost use Rattle.toml.specs.Data.{Data, as_str, as_bool, as_integer, get_member};
 ghost use Rattle.toml.specs.View.{view, table_view};
-ghost use Rattle.role_model.specs.MetadataForm.{required, optional, with_default, list_of, filled_list_of, filled_text, json_text, kind_of, kind_named, integer_from, has_only};
+ghost use Rattle.role_model.specs.MetadataForm.{required, optional, with_default, list_of, filled_list_of, filled_text};
+ghost use Rattle.role_model.specs.MetadataForm.{json_text, kind_of, kind_named, integer_from, has_only};
 
 use scalar_val::{Kind, List, NoMemory, Str};
 use std::alloc::{AllocError, Global};
 use toml::{Table, Value};
 
-/// Why metadata isn't read: its form, or want of memory.
+/// Why a text or a value isn't read.
 #[derive(Clone, Copy, Debug, PartialEq, Eq)]
 pub enum FormFault {
+    /// It isn't of the form that is asked for.
     Form,
+    /// Memory was refused.
     NoMemory,
 }
 
@@ -139,7 +142,7 @@ fn json_from(alloc: Global, value: &Value) -> Result<Str, FormFault>
     }
 }
 
-/// The value of a JSON text. `Form` where it is none.
+/// The value of a JSON text. `Form` where it is none, `NoMemory` where memory is refused.
 pub fn read_json(alloc: Global, text: &str) -> Result<serde_json::Value, FormFault>
     ensures ok { IfOk result (λ v. read text.now ≡ Some (json_view v)) }
     ensures bad { result ≡ Err FormFault.Form → read text.now ≡ None }

@@ -1,12 +1,12 @@
 ghost use Rattle.std.specs.Prelude.{◌≡◌, Some, None, Ok, Err, IfOk};
 ghost use Rattle.toml.specs.View.{table_view};
-ghost use Rattle.role_model.specs.MetadataFaults.{toml_of};
+ghost use Rattle.role_model.specs.MetadataMeaning.{toml_of};
 
 use crate::form::FormFault;
 use std::alloc::Global;
 use toml::Table;
 
-/// The TOML document of a text in UTF-8. `Form` where there is none.
+/// The TOML document of a text in UTF-8. `Form` where there is none, `NoMemory` where memory is refused.
 pub fn read_toml(alloc: Global, text: &[u8]) -> Result<Table, FormFault>
     ensures ok { IfOk result (λ t. toml_of text.now ≡ Some (table_view t)) }
     ensures bad { result ≡ Err FormFault.Form → toml_of text.now ≡ None }

@@ -13,11 +13,12 @@ use Rattle.std.proofs.lemmas.Map.Text.{btree_map_updates_str}
 use Rattle.std.proofs.lemmas.Slice.Eq.{bytes_eq-Decides}
 use Rattle.role_model.specs.Texts.{Text}
 use Rattle.role_model.specs.JsonFilters.{distinct, mentions}
-use Rattle.role_model.specs.MetadataFaults.{permission_for, mentions_by, json_of, grant_of, grant_for, session_names, role_def}
+use Rattle.role_model.specs.MetadataNames.{json_of}
+use Rattle.role_model.specs.MetadataMeaning.{permission_for, mentions_by, grant_of, grant_for, session_names, role_def}
 use Rattle.role_model.specs.declared.metadata.Grant.{Grant}
 use Rattle.role_model.specs.declared.metadata.PermissionEntry.{PermissionEntry}
 use Rattle.role_model.specs.declared.metadata.TableEntry.{TableEntry}
-use Rattle.filter_read.proofs.Places.{same_text, turned}
+use Rattle.name_set.proofs.NameRules.{same_text, turned}
 use Rattle.metadata_read.specs.Held.{HeldPermission, held_at, held_for, held_of, names_held, grant_held, role_held, is_at, ends_at, with_held, is_of, with_one, with_each, with_tables, kept_by}
 
 -- the last of a list
@@ -142,5 +143,5 @@ kept_more m taken n role own h takes puts named is q =
         let mine : bytes_eq q h.permission.role ≡ true = (bytes_eq-Decides q h.permission.role).1 (sym same ∙ named) in
         rw mine (is ∙ ap (λ r. with_held (kept_by m r) h) same)
     by false k =
-        let other : bytes_eq q h.permission.role ≡ false = ap (bytes_eq q) (sym named) ∙ turned role q (bytes_eq q role) k refl in
+        let other : bytes_eq q h.permission.role ≡ false = ap (bytes_eq q) (sym named) ∙ turned q role ∙ k in
         rw other refl

@@ -1,3 +1,5 @@
+pub mod Few
 pub mod Kept
+pub mod RoleNames
 pub mod Steps
 pub mod Twice

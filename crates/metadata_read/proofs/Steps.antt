@@ -6,7 +6,8 @@ use Rattle.std.specs.List.{list_any, filter_map, cons_option}
 use Rattle.std.specs.Option.{option_to_list}
 use Rattle.data_model.specs.declared.catalog.Column.{Column}
 use Rattle.role_model.specs.JsonFilters.{filter_of}
-use Rattle.role_model.specs.MetadataFaults.{field_names, links_of, lacks_a_filter, json_of}
+use Rattle.role_model.specs.MetadataNames.{field_names, links_of, json_of}
+use Rattle.role_model.specs.MetadataFaults.{lacks_a_filter}
 use Rattle.role_model.specs.Texts.{Text}
 use Rattle.role_model.specs.declared.metadata.LinkEntry.{LinkEntry}
 use Rattle.role_model.specs.declared.metadata.PermissionEntry.{PermissionEntry}

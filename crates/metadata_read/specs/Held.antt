@@ -8,7 +8,8 @@ use Rattle.std.specs.Cmp.Lexicographic.{slice_cmp}
 use Rattle.std.specs.BTreeMap.{BTreeMap, get_by}
 use Rattle.role_model.specs.Texts.{Text}
 use Rattle.role_model.specs.JsonFilters.{distinct, mentions}
-use Rattle.role_model.specs.MetadataFaults.{permission_for, json_of, grant_of}
+use Rattle.role_model.specs.MetadataNames.{json_of}
+use Rattle.role_model.specs.MetadataMeaning.{permission_for, grant_of}
 use Rattle.role_model.specs.declared.metadata.Grant.{Grant}
 use Rattle.role_model.specs.declared.metadata.PermissionEntry.{PermissionEntry}
 use Rattle.role_model.specs.declared.metadata.RoleDef.{RoleDef}

@@ -1,17 +1,29 @@
-ghost use Rattle.std.specs.Prelude.{◌≡◌, ◌++◌, ◌∷◌, ◌||◌, ◌&&◌, [], List, Some, None, IfOk, OnOk, not, is_none, nat_eq, nat_lt, length, option_map, map, position, find, codes};
+ghost use Rattle.std.specs.Prelude.{◌≡◌, ◌≤◌, ◌<◌, ◌++◌, ◌∷◌, ◌||◌, ◌&&◌, [], List, Some, None, IfOk, OnOk, IfSome};
+ghost use Rattle.std.specs.Prelude.{false, not, is_none, nat_eq, nat_lt, length, option_map, map, position, find};
+ghost use Rattle.std.specs.Prelude.{codes};
 ghost use Rattle.std.specs.Cmp.Lexicographic.{pointwise};
 ghost use Rattle.std.specs.List.{list_any, list_all, starts_with, flat_map};
 ghost use Rattle.std.specs.Option.{option_copied};
 ghost use Rattle.std.specs.Str.{bytes_eq};
 ghost use Rattle.serde_json.specs.View.{view as json_view};
 ghost use Rattle.role_model.specs.JsonFilters.{filter_of};
-ghost use Rattle.role_model.specs.MetadataFaults.{wrong_version, too_many, bad_name, duplicate, no_table, no_column, bad_kind, bad_role, bad_filter, begins_name, goes_on_name, is_graphql_name, is_own_name, has_twice, links_of, field_names, root_names, table_number, columns_by, columns_of, has_column, kind_number, kind_in, same_kind, json_of, repeats_a_name, lacks_a_column, lacks_a_filter, link_lacks_a_column, table_lacks_a_column, links_other_kinds, has_a_bad_kind};
+ghost use Rattle.scalar_val.specs.Values.{same_kind};
+ghost use Rattle.metadata_read.specs.Few.{IsNarrow, AreNarrow};
+ghost use Rattle.role_model.specs.MetadataNames.{are_one_kind, begins_name, goes_on_name, is_graphql_name, is_own_name, has_twice};
+ghost use Rattle.role_model.specs.MetadataNames.{links_of, field_names, root_names, table_number, columns_by};
+ghost use Rattle.role_model.specs.MetadataNames.{columns_of, has_column, kind_in, json_of};
+ghost use Rattle.role_model.specs.MetadataFaults.{wrong_version, too_many, bad_name, duplicate, no_table, no_column};
+ghost use Rattle.role_model.specs.MetadataFaults.{bad_kind, bad_role, bad_filter, repeats_a_name, lacks_a_column};
+ghost use Rattle.role_model.specs.MetadataFaults.{lacks_a_filter, link_lacks_a_column, table_lacks_a_column};
+ghost use Rattle.role_model.specs.MetadataFaults.{links_other_kinds, has_a_bad_kind};
 
 use data_model::Column;
-use filter_read::{Names, read_filter};
+use filter_read::read_filter;
 use metadata_form::{FormFault, read_json};
-use role_model::{Document, Filter, LinkEntry, PermissionEntry, StrList, TableEntry};
-use scalar_val::{Kind, NoMemory, Str};
+use name_set::NameSet;
+use plan_model::{Filter, StrList};
+use role_model::{Document, LinkEntry, PermissionEntry, TableEntry};
+use scalar_val::{Kind, NoMemory, Str, same_kind};
 use serde_json::Value;
 use std::alloc::Global;
 
@@ -129,18 +141,22 @@ fn stands_in(name: &str, names: &[Str]) -> bool
     false
 }
 
-#[tactic(auto, using(crate::proofs::Twice::twice_from_front))]
+fn refs_of<'a>(alloc: Global, names: &'a [Str]) -> Result<Vec<&'a Str>, NoMemory>
+    ensures { IfOk result (λ refs. map (λ n. n.now) refs.items ≡ names.now) }
+{
+    let mut refs = Vec::new(alloc);
+    for name in names {
+        refs.push(name)?;
+    }
+    Ok(refs)
+}
+
+#[tactic(auto, using(crate::proofs::Twice::same_twice))]
 fn repeats(alloc: Global, names: &[Str]) -> Result<bool, NoMemory>
     ensures { IfOk result (λ b. b ≡ has_twice names.now) }
 {
-    let mut seen = Names::new(alloc);
-    for name in names {
-        if seen.place(name.as_str()).is_some() {
-            return Ok(true);
-        }
-        seen.push(alloc, Str::of(alloc, name.as_str())?)?;
-    }
-    Ok(false)
+    let refs = refs_of(alloc, names)?;
+    name_set::repeats(alloc, refs.as_slice())
 }
 
 fn push_copy(alloc: Global, names: &mut StrList, name: &str) -> Result<(), NoMemory>
@@ -275,7 +291,8 @@ pub fn has_duplicate(alloc: Global, document: &Document) -> Result<bool, NoMemor
 
 /// The number of a table by its name.
 pub fn table_place(tables: &[TableEntry], name: &str) -> Option<usize>
-    ensures { result ≡ table_number tables.now name.now }
+    ensures value { result ≡ table_number tables.now name.now }
+    ensures bound { IfSome result (λ at. at < length tables.now) }
 {
     tables.iter().position(|table| name == table.name.as_str())
 }
@@ -400,23 +417,11 @@ pub fn has_no_column(document: &Document) -> bool
     false
 }
 
-fn kind_code(kind: Kind) -> u8
-    ensures { result ≡ kind_number kind }
-{
-    match kind {
-        Kind::Bool => 0,
-        Kind::Int => 1,
-        Kind::Big => 2,
-        Kind::Text => 3,
-        Kind::Uuid => 4,
-    }
-}
-
-fn are_same_kind(a: Option<Kind>, b: Option<Kind>) -> bool
-    ensures { result ≡ same_kind a b }
+fn are_one_kind(a: Option<Kind>, b: Option<Kind>) -> bool
+    ensures { result ≡ are_one_kind a b }
 {
     match (a, b) {
-        (Some(a), Some(b)) => kind_code(a) == kind_code(b),
+        (Some(a), Some(b)) => same_kind(a, b),
         _ => false,
     }
 }
@@ -442,13 +447,13 @@ fn kind_of(table: Option<&TableEntry>, name: &str) -> Option<Kind>
 }
 
 fn kinds_agree(columns: &[Column], from: &[Str], target: Option<&TableEntry>, to: &[Str]) -> bool
-    ensures { result ≡ pointwise same_kind (map (kind_in columns.now) from.now) (map (kind_in (columns_by (option_copied target.entry))) to.now) }
+    ensures { result ≡ pointwise are_one_kind (map (kind_in columns.now) from.now) (map (kind_in (columns_by (option_copied target.entry))) to.now) }
 {
     if from.len() != to.len() {
         return false;
     }
     for i in 0..from.len() {
-        if !are_same_kind(
+        if !are_one_kind(
             kind_by(columns, from[i].as_str()),
             kind_of(target, to[i].as_str()),
         ) {
@@ -551,13 +556,15 @@ fn read_bare_filter(
     columns: &[Column],
     value: &Value,
 ) -> Result<Option<Filter>, NoMemory>
+    requires narrow { length columns.now ≤ 64 }
     ensures { IfOk result (λ o. o ≡ filter_of columns.now [] (json_view value.now)) }
 {
-    let names = Names::new(alloc);
+    let names = NameSet::new(alloc);
     read_filter(alloc, columns, &names, value)
 }
 
 fn is_no_filter(alloc: Global, columns: &[Column], text: &str) -> Result<bool, NoMemory>
+    requires narrow { length columns.now ≤ 64 }
     ensures { IfOk result (λ b. b ≡ is_none (filter_of columns.now [] (json_of text.now))) }
 {
     let value = json_in(alloc, text)?;
@@ -570,6 +577,7 @@ fn permissions_have_no_filter(
     columns: &[Column],
     select: &[PermissionEntry],
 ) -> Result<bool, NoMemory>
+    requires narrow { length columns.now ≤ 64 }
     ensures { IfOk result (λ b. b ≡ list_any (λ p. is_none (filter_of columns.now [] (json_of p.filter))) select.now) }
 {
     for permission in select {
@@ -581,6 +589,7 @@ fn permissions_have_no_filter(
 }
 
 fn table_lacks_filter(alloc: Global, table: &TableEntry) -> Result<bool, NoMemory>
+    requires narrow { IsNarrow table.now }
     ensures { IfOk result (λ b. b ≡ lacks_a_filter table.now) }
 {
     let columns = table.columns.as_slice();
@@ -589,6 +598,7 @@ fn table_lacks_filter(alloc: Global, table: &TableEntry) -> Result<bool, NoMemor
 }
 
 fn some_table_lacks_filter(alloc: Global, tables: &[TableEntry]) -> Result<bool, NoMemory>
+    requires narrow { AreNarrow tables.now }
     ensures { IfOk result (λ b. b ≡ list_any lacks_a_filter tables.now) }
 {
     for table in tables {
@@ -599,7 +609,9 @@ fn some_table_lacks_filter(alloc: Global, tables: &[TableEntry]) -> Result<bool,
     Ok(false)
 }
 
+#[tactic(auto, using(crate::proofs::Few::few))]
 pub fn has_bad_filter(alloc: Global, document: &Document) -> Result<bool, NoMemory>
+    requires few { too_many document.now ≡ false }
     ensures { IfOk result (λ b. b ≡ bad_filter document.now) }
 {
     some_table_lacks_filter(alloc, document.tables.as_slice())

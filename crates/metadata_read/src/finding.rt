@@ -9,7 +9,8 @@ use role_model::{Document, MetaFault};
 use scalar_val::NoMemory;
 use std::alloc::Global;
 
-/// The first fault of a document, in the order of `MetaFault`.
+/// The first fault of a document, in the order of `MetaFault`, and `None` where nothing is wrong with it. `NoMemory`
+/// where memory is refused.
 pub fn find_fault(alloc: Global, document: &Document) -> Result<Option<MetaFault>, NoMemory>
     ensures { IfOk result (λ o. o ≡ fault_of document.now) }
 {

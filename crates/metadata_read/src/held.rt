@@ -1,9 +1,10 @@
-ghost use Rattle.std.specs.Prelude.{◌≡◌, [], None, unwrap_or, IfOk, OnOk};
+ghost use Rattle.std.specs.Prelude.{◌≡◌, ◌<◌, [], None, unwrap_or, IfOk, OnOk};
 ghost use Rattle.std.specs.Option.{option_copied};
 ghost use Rattle.std.specs.BTreeMap.{UpdatesBy};
 ghost use Rattle.std.specs.Ordering.{nat_cmp};
 ghost use Rattle.std.specs.Cmp.Lexicographic.{slice_cmp};
 ghost use Rattle.role_model.specs.Texts.{Text};
+ghost use Rattle.metadata_read.specs.Few.{IsNarrow, AreFew};
 ghost use Rattle.metadata_read.specs.Held.{ends_at, with_held, with_one, with_each, kept_by, held_of};
 
 use role_model::{PermissionEntry, TableEntry};
@@ -12,7 +13,7 @@ use std::alloc::Global;
 use std::collections::BTreeMap;
 use std::marker::Model;
 
-/// A permission, with its table and the place of the table.
+/// A permission, with its table, of at most 64 columns, and the place of the table, below 256.
 #[derive(Drop)]
 pub struct Held<'a> {
     pub at: usize,
@@ -32,6 +33,11 @@ impl<'a> Model for Held<'a> {
     ghost coded = { Prim.hlevel (codes, table_row.the_row.coded, permission_row.the_row.coded) };
 
     ghost view = { λ h. record { at = h.at; table = h.table.now; permission = h.permission.now } };
+
+    ghost use Rattle.std.specs.Prelude.{◌<◌};
+    ghost use Rattle.metadata_read.specs.Few.{IsNarrow};
+
+    ghost invariant = { λ h. (h.at < 256) × IsNarrow h.table.now };
 }
 
 pub type HeldList<'a> = List<Held<'a>>;
@@ -92,6 +98,8 @@ fn keep_of_table<'a>(
     at: usize,
     table: &'a TableEntry,
 ) -> Result<(), NoMemory>
+    requires place { at < 256 }
+    requires narrow { IsNarrow table.now }
     ensures { OnOk result ((q : Text) → kept_by kept.new q ≡ with_each q at table.now (kept_by kept.old q) table.now.select) }
 {
     for permission in table.select.as_slice() {
@@ -110,6 +118,7 @@ fn keep_of_table<'a>(
 
 /// The permissions of all roles, each role's in the order of the tables. Of two of one table the first counts.
 pub fn held_by_role<'a>(alloc: Global, tables: &'a [TableEntry]) -> Result<HeldMap<'a>, NoMemory>
+    requires few { AreFew tables.now }
     ensures { IfOk result (λ kept. (q : Text) → kept_by kept q ≡ held_of tables.now q) }
 {
     let mut kept = HeldMap::new(alloc);

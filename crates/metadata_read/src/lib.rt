@@ -12,4 +12,4 @@ mod plain;
 mod tests;
 
 pub use finding::find_fault;
-pub use meaning::read_meaning;
+pub use meaning::{Meaning, read_meaning};

@@ -1,14 +1,21 @@
-ghost use Rattle.std.specs.Prelude.{◌≡◌, ◌++◌, ◌∷◌, [], IfOk, OnOk, map, unwrap_or};
+ghost use Rattle.std.specs.Prelude.{◌≡◌, ◌≤◌, ◌<◌, ◌++◌, ◌∷◌, [], length, None, IfOk, OnOk, IfSome, map, find};
+ghost use Rattle.std.specs.Prelude.{unwrap_or};
 ghost use Rattle.std.specs.List.{filter_map};
 ghost use Rattle.std.specs.Option.{option_copied, option_to_list};
-ghost use Rattle.role_model.specs.MetadataFaults.{numbers_of, table_number, columns_of, table_def, link_def, link_defs, columns_by, grant_of, role_def, role_names, meaning_of};
+ghost use Rattle.std.specs.Str.{bytes_eq};
+ghost use Rattle.role_model.specs.MetadataNames.{table_number, columns_of, columns_by};
+ghost use Rattle.role_model.specs.MetadataMeaning.{numbers_of, table_def, link_def, link_defs, grant_of, role_def};
+ghost use Rattle.role_model.specs.MetadataMeaning.{role_names, meaning_of};
+ghost use Rattle.role_model.specs.MetadataFaults.{fault_of};
+ghost use Rattle.metadata_read.specs.Few.{IsNarrow, AreNarrow, AreFew};
 ghost use Rattle.metadata_read.specs.Held.{grant_held, role_held, kept_by};
 
 use crate::faults::{json_in, table_by, table_place};
 use crate::held::{Held, HeldList, HeldMap, held_by_role, held_in};
 use crate::mentions::{role_names_of, session_names_of};
 use data_model::{Catalog, Column, ColumnDefList, ColumnList, TableDef, TableDefList};
-use filter_read::{Names, column_place, number, read_filter};
+use filter_read::{number_of_column, read_filter};
+use name_set::NameSet;
 use role_model::{
     Document, Grant, GrantList, LinkDef, LinkEntry, LinkList, LinkListList, Metadata,
     PermissionEntry, RoleDef, RoleList, TableEntry,
@@ -32,12 +39,13 @@ fn copy_columns(alloc: Global, columns: &[Column]) -> Result<ColumnDefList, NoMe
 }
 
 fn numbers(alloc: Global, columns: &[Column], names: &[Str]) -> Result<ColumnList, NoMemory>
+    requires narrow { length columns.now ≤ 64 }
     ensures { IfOk result (λ ns. ns ≡ numbers_of columns.now names.now) }
 {
     let mut found = ColumnList::new(alloc);
     for name in names {
-        let at = number(column_place(columns, name.as_str()))?;
-        found.push(at).map_err(|_| NoMemory)?;
+        let number = number_of_column(columns, name.as_str());
+        found.push(number).map_err(|_| NoMemory)?;
     }
     Ok(found)
 }
@@ -47,6 +55,7 @@ fn numbers_in(
     table: Option<&TableEntry>,
     names: &[Str],
 ) -> Result<ColumnList, NoMemory>
+    requires narrow { IfSome table (λ t. IsNarrow t.now) }
     ensures { IfOk result (λ ns. ns ≡ numbers_of (columns_by (option_copied table.entry)) names.now) }
 {
     match table {
@@ -56,6 +65,7 @@ fn numbers_in(
 }
 
 fn table_of(alloc: Global, table: &TableEntry) -> Result<TableDef, NoMemory>
+    requires narrow { IsNarrow table.now }
     ensures { IfOk result (λ t. t ≡ table_def table.now) }
 {
     let name = Str::of(alloc, table.name.as_str())?;
@@ -72,6 +82,7 @@ fn table_of(alloc: Global, table: &TableEntry) -> Result<TableDef, NoMemory>
 }
 
 fn tables_of(alloc: Global, tables: &[TableEntry]) -> Result<TableDefList, NoMemory>
+    requires narrow { AreNarrow tables.now }
     ensures { IfOk result (λ ts. ts ≡ map table_def tables.now) }
 {
     let mut found = TableDefList::new(alloc);
@@ -83,10 +94,23 @@ fn tables_of(alloc: Global, tables: &[TableEntry]) -> Result<TableDefList, NoMem
 }
 
 /// The number of the table that a relationship leads to.
-fn target(tables: &[TableEntry], link: &LinkEntry) -> Result<u32, NoMemory>
-    ensures { IfOk result (λ n. n ≡ unwrap_or (table_number tables.now link.now.table) 0) }
+fn target(tables: &[TableEntry], link: &LinkEntry) -> u32
+    requires few { AreFew tables.now }
+    ensures { result ≡ unwrap_or (table_number tables.now link.now.table) 0 }
 {
-    number(table_place(tables, link.table.as_str()))
+    match table_place(tables, link.table.as_str()) {
+        Some(at) => at as u32,
+        None => 0,
+    }
+}
+
+#[tactic(auto, using(crate::proofs::Few::found_narrow))]
+fn target_table<'a>(tables: &'a [TableEntry], link: &LinkEntry) -> Option<&'a TableEntry>
+    requires narrow { AreNarrow tables.now }
+    ensures value { option_copied result ≡ find (λ t. bytes_eq link.now.table t.name) tables.now }
+    ensures narrow { IfSome result (λ t. IsNarrow t.now) }
+{
+    table_by(tables, link.table.as_str())
 }
 
 /// The columns there.
@@ -95,10 +119,10 @@ fn target_columns(
     tables: &[TableEntry],
     link: &LinkEntry,
 ) -> Result<ColumnList, NoMemory>
+    requires narrow { AreNarrow tables.now }
     ensures { IfOk result (λ ns. ns ≡ numbers_of (columns_of tables.now link.now.table) link.now.to) }
 {
-    let table = table_by(tables, link.table.as_str());
-    numbers_in(alloc, table, link.to.as_slice())
+    numbers_in(alloc, target_table(tables, link), link.to.as_slice())
 }
 
 fn link_of(
@@ -108,10 +132,12 @@ fn link_of(
     many: bool,
     link: &LinkEntry,
 ) -> Result<LinkDef, NoMemory>
+    requires few { AreFew tables.now }
+    requires narrow { IsNarrow table.now }
     ensures { IfOk result (λ l. l ≡ link_def tables.now table.now many link.now) }
 {
     let name = Str::of(alloc, link.name.as_str())?;
-    let target = target(tables, link)?;
+    let target = target(tables, link);
     let from = numbers(alloc, table.columns.as_slice(), link.from.as_slice())?;
     let to = target_columns(alloc, tables, link)?;
     Ok(LinkDef {
@@ -131,6 +157,8 @@ fn push_link(
     many: bool,
     link: &LinkEntry,
 ) -> Result<(), NoMemory>
+    requires few { AreFew tables.now }
+    requires narrow { IsNarrow table.now }
     ensures { OnOk result (found.new ≡ found.old ++ link_def tables.now table.now many link.now ∷ []) }
 {
     let link = link_of(alloc, tables, table, many, link)?;
@@ -148,6 +176,8 @@ fn push_links(
     many: bool,
     links: &[LinkEntry],
 ) -> Result<(), NoMemory>
+    requires few { AreFew tables.now }
+    requires narrow { IsNarrow table.now }
     ensures { OnOk result (found.new ≡ found.old ++ map (link_def tables.now table.now many) links.now) }
 {
     for link in links {
@@ -157,6 +187,8 @@ fn push_links(
 }
 
 fn links_of(alloc: Global, tables: &[TableEntry], table: &TableEntry) -> Result<LinkList, NoMemory>
+    requires few { AreFew tables.now }
+    requires narrow { IsNarrow table.now }
     ensures { IfOk result (λ ls. ls ≡ link_defs tables.now table.now) }
 {
     let mut found = LinkList::new(alloc);
@@ -180,6 +212,7 @@ fn links_of(alloc: Global, tables: &[TableEntry], table: &TableEntry) -> Result<
 }
 
 fn links_of_all(alloc: Global, tables: &[TableEntry]) -> Result<LinkListList, NoMemory>
+    requires few { AreFew tables.now }
     ensures { IfOk result (λ ls. ls ≡ map (link_defs tables.now) tables.now) }
 {
     let mut found = LinkListList::new(alloc);
@@ -192,14 +225,16 @@ fn links_of_all(alloc: Global, tables: &[TableEntry]) -> Result<LinkListList, No
 
 pub fn grant_by(
     alloc: Global,
-    names: &Names,
+    names: &NameSet,
     at: usize,
     table: &TableEntry,
     permission: &PermissionEntry,
 ) -> Result<Option<Grant>, NoMemory>
+    requires place { at < 256 }
+    requires narrow { IsNarrow table.now }
+    requires slots { length names.now ≤ 4294967296 }
     ensures { IfOk result (λ g. g ≡ grant_of names.now at table.now permission.now) }
 {
-    let at = number(Some(at))?;
     let columns = numbers(
         alloc,
         table.columns.as_slice(),
@@ -208,7 +243,7 @@ pub fn grant_by(
     let value = json_in(alloc, permission.filter.as_str())?;
     match read_filter(alloc, table.columns.as_slice(), names, &value)? {
         Some(filter) => Ok(Some(Grant {
-            table: at,
+            table: at as u32,
             columns,
             filter,
             limit: permission.limit,
@@ -217,7 +252,8 @@ pub fn grant_by(
     }
 }
 
-fn grant_in(alloc: Global, names: &Names, held: &Held<'_>) -> Result<Option<Grant>, NoMemory>
+fn grant_in(alloc: Global, names: &NameSet, held: &Held<'_>) -> Result<Option<Grant>, NoMemory>
+    requires slots { length names.now ≤ 4294967296 }
     ensures { IfOk result (λ g. g ≡ grant_held names.now held.now) }
 {
     grant_by(alloc, names, held.at, held.table, held.permission)
@@ -235,7 +271,8 @@ pub fn push_grant(grants: &mut GrantList, grant: Option<Grant>) -> Result<(), No
     }
 }
 
-fn grants_of(alloc: Global, own: &[Held<'_>], names: &Names) -> Result<GrantList, NoMemory>
+fn grants_of(alloc: Global, own: &[Held<'_>], names: &NameSet) -> Result<GrantList, NoMemory>
+    requires slots { length names.now ≤ 4294967296 }
     ensures { IfOk result (λ gs. gs ≡ filter_map (grant_held names.now) own.now) }
 {
     let mut grants = GrantList::new(alloc);
@@ -251,10 +288,14 @@ fn role_of(alloc: Global, own: &[Held<'_>], role: &str) -> Result<RoleDef, NoMem
 {
     let name = Str::of(alloc, role)?;
     let session_names = session_names_of(alloc, own)?;
+    // A text of 1,048,576 bytes hasn't room for so many names.
+    if session_names.names().len() > u32::MAX as usize {
+        return Err(NoMemory);
+    }
     let grants = grants_of(alloc, own, &session_names)?;
     Ok(RoleDef {
         name,
-        session_names: session_names.into_texts(),
+        session_names: session_names.into_names(),
         grants,
     })
 }
@@ -284,6 +325,7 @@ fn push_role(
 }
 
 pub fn roles_of(alloc: Global, tables: &[TableEntry], names: &[Str]) -> Result<RoleList, NoMemory>
+    requires few { AreFew tables.now }
     ensures { IfOk result (λ rs. rs ≡ map (role_def tables.now) names.now) }
 {
     let kept = held_by_role(alloc, tables)?;
@@ -294,15 +336,25 @@ pub fn roles_of(alloc: Global, tables: &[TableEntry], names: &[Str]) -> Result<R
     Ok(roles)
 }
 
-/// What metadata says, where nothing is wrong with it.
-pub fn read_meaning(alloc: Global, document: Document) -> Result<Metadata, NoMemory>
-    ensures { IfOk result (λ m. m ≡ meaning_of document) }
+/// What a document says, and the names of its roles, in the order of the roles.
+#[derive(Drop)]
+pub struct Meaning {
+    pub metadata: Metadata,
+    pub role_names: NameSet,
+}
+
+/// What a document says, where nothing is wrong with it. `NoMemory` where memory is refused.
+#[tactic(auto, using(crate::proofs::Few::few_where_faultless))]
+pub fn read_meaning(alloc: Global, document: Document) -> Result<Meaning, NoMemory>
+    requires faultless { fault_of document ≡ None }
+    ensures value { IfOk result (λ m. m.metadata ≡ meaning_of document) }
+    ensures names { IfOk result (λ m. m.role_names ≡ map (λ r. r.name) m.metadata.roles) }
 {
     let tables = tables_of(alloc, document.tables.as_slice())?;
     let links = links_of_all(alloc, document.tables.as_slice())?;
     let names = role_names_of(alloc, document.tables.as_slice())?;
-    let roles = roles_of(alloc, document.tables.as_slice(), names.texts())?;
-    Ok(Metadata {
+    let roles = roles_of(alloc, document.tables.as_slice(), names.names())?;
+    let metadata = Metadata {
         catalog: Catalog { tables },
         links,
         roles,
@@ -310,5 +362,9 @@ pub fn read_meaning(alloc: Global, document: Document) -> Result<Metadata, NoMem
         refetch_ms: document.refetch_ms,
         secret: document.admin_secret,
         unauthorized_role: document.unauthorized_role,
+    };
+    Ok(Meaning {
+        metadata,
+        role_names: names,
     })
 }

@@ -1,14 +1,15 @@
 //! What a role is, read table by table as the definition says it. The tests compare it with what the crate reads.
 
-ghost use Rattle.std.specs.Prelude.{◌≡◌, IfOk, OnOk};
+ghost use Rattle.std.specs.Prelude.{◌≡◌, ◌≤◌, ◌<◌, length, IfOk, OnOk};
 ghost use Rattle.std.specs.List.{fold, filter_map, enumerate_from};
 ghost use Rattle.std.specs.Option.{option_copied};
 ghost use Rattle.role_model.specs.JsonFilters.{with_text};
-ghost use Rattle.role_model.specs.MetadataFaults.{mentions_by, permission_for, session_names, grant_for, role_def};
+ghost use Rattle.role_model.specs.MetadataMeaning.{mentions_by, permission_for, session_names, grant_for, role_def};
+ghost use Rattle.metadata_read.specs.Few.{IsNarrow, AreFew};
 
 use crate::meaning::{grant_by, push_grant};
 use crate::mentions::push_mentions_by;
-use filter_read::Names;
+use name_set::NameSet;
 use role_model::{Grant, GrantList, PermissionEntry, RoleDef, TableEntry};
 use scalar_val::{NoMemory, Str};
 use std::alloc::Global;
@@ -28,7 +29,7 @@ fn permission_of<'a>(table: &'a TableEntry, role: &str) -> Option<&'a Permission
 fn push_mentions_if_any(
     alloc: Global,
     permission: Option<&PermissionEntry>,
-    names: &mut Names,
+    names: &mut NameSet,
 ) -> Result<(), NoMemory>
     ensures { OnOk result (names.new ≡ fold with_text names.old (mentions_by (option_copied permission.entry))) }
 {
@@ -39,10 +40,10 @@ fn push_mentions_if_any(
 }
 
 /// The session variables that a role's filters name, each once.
-fn session_names_of(alloc: Global, tables: &[TableEntry], role: &str) -> Result<Names, NoMemory>
+fn session_names_of(alloc: Global, tables: &[TableEntry], role: &str) -> Result<NameSet, NoMemory>
     ensures { IfOk result (λ names. names ≡ session_names tables.now role.now) }
 {
-    let mut names = Names::new(alloc);
+    let mut names = NameSet::new(alloc);
     for table in tables {
         push_mentions_if_any(alloc, permission_of(table, role), &mut names)?;
     }
@@ -52,10 +53,13 @@ fn session_names_of(alloc: Global, tables: &[TableEntry], role: &str) -> Result<
 fn grant_in(
     alloc: Global,
     role: &str,
-    names: &Names,
+    names: &NameSet,
     at: usize,
     table: &TableEntry,
 ) -> Result<Option<Grant>, NoMemory>
+    requires place { at < 256 }
+    requires narrow { IsNarrow table.now }
+    requires slots { length names.now ≤ 4294967296 }
     ensures { IfOk result (λ g. g ≡ grant_for role.now names.now (at, table.now)) }
 {
     match permission_of(table, role) {
@@ -68,8 +72,10 @@ fn grants_of(
     alloc: Global,
     tables: &[TableEntry],
     role: &str,
-    names: &Names,
+    names: &NameSet,
 ) -> Result<GrantList, NoMemory>
+    requires few { AreFew tables.now }
+    requires slots { length names.now ≤ 4294967296 }
     ensures { IfOk result (λ gs. gs ≡ filter_map (grant_for role.now names.now) (enumerate_from 0 tables.now)) }
 {
     let mut grants = GrantList::new(alloc);
@@ -82,14 +88,18 @@ fn grants_of(
 
 /// A role, table by table.
 pub fn plain_role_of(alloc: Global, tables: &[TableEntry], role: &str) -> Result<RoleDef, NoMemory>
+    requires few { AreFew tables.now }
     ensures { IfOk result (λ r. r ≡ role_def tables.now role.now) }
 {
     let name = Str::of(alloc, role)?;
     let session_names = session_names_of(alloc, tables, role)?;
+    if session_names.names().len() > u32::MAX as usize {
+        return Err(NoMemory);
+    }
     let grants = grants_of(alloc, tables, role, &session_names)?;
     Ok(RoleDef {
         name,
-        session_names: session_names.into_texts(),
+        session_names: session_names.into_names(),
         grants,
     })
 }

@@ -1,3 +1,7 @@
+ghost use Rattle.std.specs.Prelude.{◌≡◌, false};
+ghost use Rattle.role_model.specs.MetadataFaults.{too_many};
+
+use crate::faults::has_too_many;
 use crate::meaning::roles_of;
 use crate::mentions::role_names_of;
 use crate::plain::plain_role_of;
@@ -38,10 +42,13 @@ fn told(alloc: Global, role: &RoleDef) -> Result<String, NoMemory> {
 }
 
 /// What all roles are as the crate reads them.
-fn told_at_once(alloc: Global, document: &Document) -> Result<String, NoMemory> {
+#[tactic(auto, using(crate::proofs::Few::few))]
+fn told_at_once(alloc: Global, document: &Document) -> Result<String, NoMemory>
+    requires few { too_many document.now ≡ false }
+{
     let tables = document.tables.as_slice();
     let names = role_names_of(alloc, tables)?;
-    let roles = roles_of(alloc, tables, names.texts())?;
+    let roles = roles_of(alloc, tables, names.names())?;
     let mut text = String::new(alloc);
     for role in roles.as_slice() {
         text.push_str(told(alloc, role)?.as_str())?;
@@ -50,11 +57,14 @@ fn told_at_once(alloc: Global, document: &Document) -> Result<String, NoMemory> 
 }
 
 /// What all roles are, read table by table.
-fn told_plainly(alloc: Global, document: &Document) -> Result<String, NoMemory> {
+#[tactic(auto, using(crate::proofs::Few::few))]
+fn told_plainly(alloc: Global, document: &Document) -> Result<String, NoMemory>
+    requires few { too_many document.now ≡ false }
+{
     let tables = document.tables.as_slice();
     let names = role_names_of(alloc, tables)?;
     let mut text = String::new(alloc);
-    for name in names.texts() {
+    for name in names.names() {
         let role = plain_role_of(alloc, tables, name.as_str())?;
         text.push_str(told(alloc, &role)?.as_str())?;
     }
@@ -64,6 +74,9 @@ fn told_plainly(alloc: Global, document: &Document) -> Result<String, NoMemory> 
 /// Whether both ways of reading say this.
 fn both_say(alloc: Global, selects: [&str; 3], want: &str) -> Result<bool, NoMemory> {
     let document = document_of(alloc, selects)?;
+    if has_too_many(&document) {
+        return Ok(false);
+    }
     let at_once = told_at_once(alloc, &document)?;
     let plainly = told_plainly(alloc, &document)?;
     Ok(at_once.as_str() == want && plainly.as_str() == want)

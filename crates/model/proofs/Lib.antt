@@ -1,26 +1,5 @@
-pub mod Tests
-pub mod Runs
-pub mod AdmittedSubscribes
-pub mod ToldResults
-pub mod Following
-pub mod EndedSubscriptions
-pub mod Finding
-pub mod Changes
-pub mod Among
-pub mod SameCohort
-pub mod Apart
-pub mod Moves
-pub mod Publishing
-pub mod Taking
-pub mod SoundRuns
-pub mod Order
 pub mod Filters
 pub mod WorkedReaders
 mod WorkedOutputs
-pub mod OwnResults
-pub mod WorkedLaws
-pub mod LinkedRuns
-pub mod Cursors
-pub mod Numbers
 pub mod WorkedLines
 pub mod WorkedFlights

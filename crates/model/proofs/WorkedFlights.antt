@@ -4,9 +4,10 @@ use Rattle.std.specs.Prelude.{◌≡◌, ℕ, refl, None, List, [], ◌∷◌, m
 use Rattle.std.specs.List.{flat_map}
 use Rattle.json.specs.Print.{escape_byte}
 use Rattle.model.specs.Messages.{Init, Subscribe, Complete, Ping, Bad, Invalid}
-use Rattle.model.specs.State.{Event, Connect, Receive, Binary, Timeout, Gone, Tick, Take, Publish, Abandon, Drain, Report, Reply, ConnectionUnknown, ConnectionKnown, Did, Ticked, Nobody, Taken, NotOpen, Published, Abandoned, Sent, Done, Reported, Queued, Step}
+use Rattle.model.specs.State.{Event, Connect, Receive, Binary, Timeout, Gone, Tick, Take, Publish, Abandon, Drain, Report, Reply, ConnectionUnknown, ConnectionKnown, Did, Ticked, Nobody, Taken, NotOpen, Published, Abandoned, Sent, Done, Reported, Step}
 use Rattle.model.specs.Run.{steps}
 use Rattle.model.specs.WorkedScript.{users}
+use Rattle.model.specs.declared.queued.Queued.{Queued}
 
 abbrev init : Event
 init = Receive 1 (Init None)
@@ -27,7 +28,7 @@ abbrev counts : ℕ → ℕ → ℕ → ℕ → Reply
 counts connections live due jobs = Reported (record { connections = connections; live = live; due = due; jobs = jobs; version = 0 })
 
 abbrev ack : Queued
-ack = record { connection = 1; text = codes "{\"type\":\"connection_ack\"}" }
+ack = record { conn = 1; text = codes "{\"type\":\"connection_ack\"}" }
 
 -- A connection is gone and opened again with the same number while a job is in flight: its new subscription, of the same
 -- id, isn't told of that job, and its cohort is busy until the job is closed.

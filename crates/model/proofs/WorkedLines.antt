@@ -4,8 +4,9 @@ use Rattle.std.specs.Fmt.{digits}
 use Rattle.std.specs.Str.{is_utf8, chars}
 use lib.Utf8.{encode}
 use Rattle.serde_json.proofs.OnLiterals.{serde_json_on_literals}
-use Rattle.model.specs.Script.{Fault, Known, NotEvent, NotTransaction, Unbuilt}
+use Rattle.model.specs.Script.{Fault}
 use Rattle.model.specs.WorkedScript.{ran, standing}
+use Rattle.model.specs.declared.script.ScriptReason.TheVariants.{Known, NotEvent, Transaction, Unbuilt}
 
 -- a carriage return is part of its line; a line with a byte that is no UTF-8 is no event, whatever it begins with
 pub no_forms :
@@ -27,7 +28,7 @@ unbuilt_texts = refl
 
 pub no_transactions :
     map standing (codes "commit {}" ∷ codes "commit " ∷ codes "commit []x" ∷ codes "commit [{}]" ∷ codes "commit [[]]" ∷ []) ≡
-    Fault 2 NotTransaction ∷ Fault 2 NotTransaction ∷ Fault 2 NotTransaction ∷ Fault 2 NotTransaction ∷ Fault 2 NotTransaction ∷ []
+    Fault 2 Transaction ∷ Fault 2 Transaction ∷ Fault 2 Transaction ∷ Fault 2 Transaction ∷ Fault 2 Transaction ∷ []
 unfolding digits is_utf8 chars encode serde_json_on_literals
 no_transactions = refl
 

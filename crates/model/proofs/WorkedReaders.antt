@@ -8,10 +8,10 @@ use Rattle.scalar_val.specs.declared.val.Kind.TheVariants as kind
 use Rattle.data_model.specs.declared.catalog.TableDef.{TableDef}
 use Rattle.data_model.specs.declared.transaction.TxChange.{TxChange}
 use Rattle.data_model.specs.declared.transaction.TxChange.TheVariants.{Insert}
-use Rattle.role_model.specs.declared.filter.Filter.{Filter}
-use Rattle.role_model.specs.declared.filter.Filter.TheVariants.{And, Cmp}
-use Rattle.role_model.specs.declared.filter.Op.TheVariants.{Eq}
-use Rattle.role_model.specs.declared.filter.Operand.TheVariants.{Sess}
+use Rattle.plan_model.specs.declared.filter.Filter.{Filter}
+use Rattle.plan_model.specs.declared.filter.Filter.TheVariants.{And, Cmp}
+use Rattle.plan_model.specs.declared.filter.Op.TheVariants.{Eq}
+use Rattle.plan_model.specs.declared.filter.Operand.TheVariants.{Sess}
 use Rattle.role_model.specs.declared.metadata.Metadata.{Metadata}
 use Rattle.role_model.specs.declared.session.Session.{Session}
 use Rattle.role_model.specs.declared.session.Identity.TheVariants as identity
@@ -19,9 +19,10 @@ use Rattle.role_model.specs.Sessions.{identity_of}
 use Rattle.model.specs.Queries.{Query, Columns, SubscriptionWord, Live}
 use Rattle.model.specs.Admission.{Admits, admits}
 use Rattle.std.specs.List.{flat_map}
-use Rattle.model.specs.State.{State, Event, Tick, Take, Publish, Reply, Ticked, Taken, Published, Queued, Step, Subscription, Connection, Acknowledged, opening}
+use Rattle.model.specs.State.{State, Event, Tick, Take, Publish, Reply, Ticked, Taken, Published, Step, Subscription, Connection, Acknowledged, opening}
 use Rattle.model.specs.Run.{steps_from}
 use Rattle.model.specs.Worked.{column, table, metadata, cell, user}
+use Rattle.model.specs.declared.queued.Queued.{Queued}
 use Rattle.model.proofs.Filters.{filters}
 
 -- Posts, of which a reader sees its own
@@ -98,7 +99,7 @@ abbrev replies : State → List Reply
 replies s = map (λ (t : Step). t.reply) (steps_from posts s poll)
 
 abbrev says : ℕ → List ℕ → Queued
-says c text = record { connection = c; text = codes "{\"type\":\"next\",\"id\":\"p\",\"payload\":{\"data\":{\"post\":[" ++ text ++ codes "]}}}" }
+says c text = record { conn = c; text = codes "{\"type\":\"next\",\"id\":\"p\",\"payload\":{\"data\":{\"post\":[" ++ text ++ codes "]}}}" }
 
 -- each of two users is told of the own posts alone
 pub two_users : told (two_readers 1 2) ≡ says 1 (codes "{\"id\":1,\"title\":\"x\"}") ∷ says 2 (codes "{\"id\":2,\"title\":\"y\"}") ∷ []

@@ -1,6 +1,27 @@
 -- Pollers, cohorts and batches (Hasura's live query architecture, "Multiplexing"), as relations on subscriptions.
 -- The numbering of jobs and the rules of these events are this project's own.
-use Rattle.std.specs.Prelude.{ℕ, ◌+◌, Bool, ◌&&◌, ◌||◌, not, ◌==◌, if◌then◌else◌, Option, Some, None, List, [], ◌∷◌, ◌++◌, length, take, map, filter, find}
+use Rattle.std.specs.Prelude.{
+  ℕ,
+  ◌+◌,
+  Bool,
+  ◌&&◌,
+  ◌||◌,
+  not,
+  ◌==◌,
+  if◌then◌else◌,
+  Option,
+  Some,
+  None,
+  List,
+  [],
+  ◌∷◌,
+  ◌++◌,
+  length,
+  take,
+  map,
+  filter,
+  find,
+}
 use Rattle.std.specs.List.{list_any, filter_map, position_from}
 use Rattle.model.specs.Values.{same_value}
 use Rattle.model.specs.Queries.{same_poller, same_binding}
@@ -45,12 +66,14 @@ is_due due sub = list_any (λ n. n == sub.number) due
 abbrev pub first_of_each : List Subscription → List Subscription → List Subscription
 first_of_each earlier [] = []
 first_of_each earlier (sub ∷ subs) =
-    if list_any (are_of_one_cohort sub) earlier then first_of_each earlier subs else sub ∷ first_of_each (sub ∷ earlier) subs
+    if list_any (are_of_one_cohort sub) earlier then first_of_each earlier subs
+    else sub ∷ first_of_each (sub ∷ earlier) subs
 
 -- For each cohort of a batch, its least due subscription. The batch has the poller of `first`; its cohorts stand in the
 -- order of their least due numbers, and are cut to the batch size.
 abbrev pub batch : ℕ → List ℕ → List Subscription → Subscription → List Subscription
-batch size due subs first = take size (first_of_each [] (filter (λ sub. is_due due sub && are_polled_together first sub) subs))
+batch size due subs first = take size (first_of_each []
+    (filter (λ sub. is_due due sub && are_polled_together first sub) subs))
 
 abbrev pub member_at : Subscription → Option ℕ → Option Member
 member_at sub (Some place) = Some (record { subscription = sub.number; cohort = place + 1 })
@@ -64,15 +87,21 @@ abbrev pub members_of : List Subscription → List Subscription → List Member
 members_of cohorts subs = filter_map (member_of cohorts) subs
 
 abbrev pub next_job : State → List Member → Job
-next_job s members = record { number = s.taken + 1; version = length s.transactions; members = members }
+next_job s members = record { number = s.jobs_made + 1; version = length s.transactions; members = members }
 
 -- the members leave `due`, and the job is open
 abbrev pub taken_with : State → Job → Step
-taken_with s job = silent (record s { due = filter (λ n. not (is_member n job)) s.due; jobs = s.jobs ++ job ∷ []; taken = s.taken + 1 }) (Taken job)
+taken_with s job = silent (record s {
+  due = filter (λ n. not (is_member n job)) s.due;
+  jobs = s.jobs
+      ++ job ∷ [];
+  jobs_made = s.jobs_made + 1;
+}) (Taken job)
 
 abbrev pub take_from : Metadata → State → Option Subscription → Step
 take_from meta s None = silent s Nobody
-take_from meta s (Some first) = taken_with s (next_job s (members_of (batch meta.batch_size s.due s.subscriptions first) s.subscriptions))
+take_from meta s (Some first) = taken_with s (next_job s
+    (members_of (batch meta.batch_size s.due s.subscriptions first) s.subscriptions))
 
 -- the poller is that of the least due number
 abbrev pub take_job : Metadata → State → Step
@@ -90,5 +119,10 @@ without_job number jobs = filter (λ job. not (is_job number job)) jobs
 -- a job's live members become due again, and it is closed
 abbrev pub abandon : ℕ → State → Option Job → Step
 abandon number s (Some job) =
-    silent (record s { due = numbers (filter (λ sub. is_due s.due sub || sub.live && is_member sub.number job) s.subscriptions); jobs = without_job number s.jobs }) Abandoned
+    silent (record
+    s {
+      due = numbers (filter (λ sub. is_due s.due sub || sub.live && is_member sub.number job)
+          s.subscriptions);
+      jobs = without_job number s.jobs;
+    }) Abandoned
 abandon number s None = silent s NotOpen

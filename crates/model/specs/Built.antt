@@ -5,7 +5,29 @@ use Rattle.role_model.specs.declared.metadata.Metadata.{Metadata}
 use Rattle.role_model.specs.declared.session.Session.{Session}
 use Rattle.model.specs.Messages.{Message, Init, Subscribe, Complete, Ping, Pong, Bad}
 use Rattle.model.specs.Admission.{Admission, Admits, Refuses, Unread, admits}
-use Rattle.model.specs.State.{State, Event, Connect, Receive, Binary, Timeout, Gone, Commit, Tick, Take, Publish, Abandon, Drain, Report, Skip, Connection, Phase, Fresh, Acknowledged, Closed, Subscription}
+use Rattle.model.specs.State.{
+  State,
+  Event,
+  Connect,
+  Receive,
+  Binary,
+  Timeout,
+  Gone,
+  Commit,
+  Tick,
+  Take,
+  Publish,
+  Abandon,
+  Drain,
+  Report,
+  Skip,
+  Connection,
+  Phase,
+  Fresh,
+  Acknowledged,
+  Closed,
+  Subscription,
+}
 use Rattle.model.specs.Connections.{connection_at}
 
 abbrev pub is_admitted : Admission → Bool

@@ -11,8 +11,6 @@ pub mod Forms
 pub mod Built
 pub mod Transcript
 pub mod Script
-pub mod Shown
-pub mod Laws
 pub mod Worked
 pub mod WorkedEvents
 pub mod WorkedScript

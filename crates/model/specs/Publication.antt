@@ -1,6 +1,22 @@
 -- What a publication queues (Hasura's live query and streaming subscription documentation). That a query operation is
 -- answered by its first publication, and that a stream without a row is told nothing, is this project's own.
-use Rattle.std.specs.Prelude.{ℕ, Bool, true, not, nat_lt, ◌==◌, if◌then◌else◌, Option, Some, None, List, [], ◌∷◌, ◌++◌, map}
+use Rattle.std.specs.Prelude.{
+  ℕ,
+  Bool,
+  true,
+  not,
+  nat_lt,
+  ◌==◌,
+  if◌then◌else◌,
+  Option,
+  Some,
+  None,
+  List,
+  [],
+  ◌∷◌,
+  ◌++◌,
+  map,
+}
 use Rattle.scalar_val.specs.declared.val.Val.{Val}
 use Rattle.model.specs.Values.{same_text}
 use Rattle.data_model.specs.Rows.{Database}
@@ -8,14 +24,31 @@ use Rattle.data_model.specs.Transactions.{snapshot}
 use Rattle.model.specs.Queries.{Live, Once, Stream, QueryKind, Result, result}
 use Rattle.model.specs.Messages.{next_text, complete_text}
 use Rattle.role_model.specs.declared.metadata.Metadata.{Metadata}
-use Rattle.model.specs.State.{State, Subscription, Member, Job, Step, Effect, NotOpen, Published, silent, with_reply, nothing}
+use Rattle.model.specs.State.{
+  State,
+  Subscription,
+  Member,
+  Job,
+  Step,
+  Effect,
+  NotOpen,
+  Published,
+  silent,
+  with_reply,
+  nothing,
+}
 use Rattle.model.specs.Connections.{queue_text, end_where}
 use Rattle.model.specs.Batches.{is_subscription, subscription_at, without_job}
 
 -- one effect, and then another
 abbrev pub and_then : Effect → (State → Effect) → Effect
 and_then first more =
-    record { state = (more first.state).state; queued = first.queued ++ (more first.state).queued; closed = first.closed ++ (more first.state).closed }
+    record {
+      state = (more first.state).state;
+      queued = first.queued ++ (more first.state).queued;
+      closed = first.closed
+          ++ (more first.state).closed;
+    }
 
 abbrev pub at_subscription : ℕ → (Subscription → Subscription) → Subscription → Subscription
 at_subscription number f sub = if sub.number == number then f sub else sub
@@ -39,16 +72,19 @@ queue_next sub payload s = queue_text sub.connection (next_text sub.id payload) 
 
 -- A live query's result is queued first and then only on change.
 abbrev pub publish_live : Subscription → Result → State → Effect
-publish_live sub r s = if is_new sub.last r.text then queue_next sub r.text (with_subscription sub.number (remembers r.text) s) else nothing s
+publish_live sub r s = if is_new sub.last r.text
+    then queue_next sub r.text (with_subscription sub.number (remembers r.text) s) else nothing s
 
 -- A query that is answered once is answered, completed and ended.
 abbrev pub publish_once : Subscription → Result → State → Effect
 publish_once sub r s =
-    and_then (queue_next sub r.text s) (λ t. queue_text sub.connection (complete_text sub.id) (end_where (is_subscription sub.number) t))
+    and_then (queue_next sub r.text s) (λ t. queue_text sub.connection (complete_text sub.id)
+    (end_where (is_subscription sub.number) t))
 
 -- A stream's next rows are queued where there are any, and its cursor moves to the last of them.
 abbrev pub publish_stream : Subscription → Result → State → Effect
-publish_stream sub r s = if nat_lt 0 r.rows then queue_next sub r.text (with_subscription sub.number (moves_to r.last) s) else nothing s
+publish_stream sub r s = if nat_lt 0 r.rows then queue_next sub r.text
+    (with_subscription sub.number (moves_to r.last) s) else nothing s
 
 abbrev pub publish_kind : QueryKind → Subscription → Result → State → Effect
 publish_kind Live sub r s = publish_live sub r s
@@ -57,13 +93,15 @@ publish_kind Stream sub r s = publish_stream sub r s
 
 -- what one member is told: the result of its own query and cursor on the job's database
 abbrev pub publish_member : Metadata → Database → State → Option Subscription → Effect
-publish_member meta db s (Some sub) = if sub.live then publish_kind sub.query.kind sub (result meta sub.query sub.cursor db) s else nothing s
+publish_member meta db s (Some sub) = if sub.live
+    then publish_kind sub.query.kind sub (result meta sub.query sub.cursor db) s else nothing s
 publish_member meta db s None = nothing s
 
 -- the members in order; one that is no longer live at its turn is passed over
 abbrev pub publish_members : Metadata → Database → List Member → State → Effect
 publish_members meta db [] s = nothing s
-publish_members meta db (m ∷ ms) s = and_then (publish_member meta db s (subscription_at m.subscription s.subscriptions)) (λ t. publish_members meta db ms t)
+publish_members meta db (m ∷ ms) s = and_then
+    (publish_member meta db s (subscription_at m.subscription s.subscriptions)) (λ t. publish_members meta db ms t)
 
 abbrev pub close_job : ℕ → Effect → Effect
 close_job number e = record e { state = record e.state { jobs = without_job number e.state.jobs } }
@@ -73,5 +111,6 @@ abbrev pub database_of : Metadata → State → Job → Database
 database_of meta s job = snapshot meta.catalog s.transactions job.version
 
 abbrev pub publish : Metadata → ℕ → State → Option Job → Step
-publish meta number s (Some job) = with_reply (Published job.version) (close_job number (publish_members meta (database_of meta s job) job.members s))
+publish meta number s (Some job) = with_reply (Published job.version)
+    (close_job number (publish_members meta (database_of meta s job) job.members s))
 publish meta number s None = silent s NotOpen

@@ -6,7 +6,33 @@ use Rattle.data_model.specs.Rows.{Database}
 use Rattle.data_model.specs.Transactions.{apply, snapshot}
 use Rattle.model.specs.Messages.{Bad}
 use Rattle.role_model.specs.declared.metadata.Metadata.{Metadata}
-use Rattle.model.specs.State.{State, Event, Connect, Receive, Binary, Timeout, Gone, Commit, Tick, Take, Publish, Abandon, Drain, Report, Skip, Did, Committed, Declined, Reported, Skipped, Counts, Step, opening, silent, with_reply}
+use Rattle.model.specs.State.{
+  State,
+  Event,
+  Connect,
+  Receive,
+  Binary,
+  Timeout,
+  Gone,
+  Commit,
+  Tick,
+  Take,
+  Publish,
+  Abandon,
+  Drain,
+  Report,
+  Skip,
+  Did,
+  Committed,
+  Declined,
+  Reported,
+  Skipped,
+  Counts,
+  Step,
+  opening,
+  silent,
+  with_reply,
+}
 use Rattle.model.specs.Connections.{connection_at, connect, on_known, receive, timed_out, gone, drained}
 use Rattle.model.specs.Batches.{tick, take_job, abandon, job_at}
 use Rattle.model.specs.Publication.{publish}
@@ -17,15 +43,25 @@ database_now meta s = snapshot meta.catalog s.transactions (length s.transaction
 
 -- an accepted transaction is the next one; a refused one changes nothing
 abbrev pub commit : List TxChange → State → Result Database TxFault → Step
-commit tx s (Ok after) = silent (record s { transactions = s.transactions ++ tx ∷ [] }) (Committed (length s.transactions + 1))
+commit tx s (Ok after) = silent (record s { transactions = s.transactions ++ tx ∷ [] })
+    (Committed (length s.transactions + 1))
 commit tx s (Err fault) = silent s (Declined fault)
 
 abbrev pub counts : State → Counts
-counts s = record { connections = length s.connections; live = length (filter (λ sub. sub.live) s.subscriptions); due = length s.due; jobs = length s.jobs; version = length s.transactions }
+counts s = record {
+  connections = length s.connections;
+  live = length
+      (filter (λ sub. sub.live) s.subscriptions);
+  due = length s.due;
+  jobs = length s.jobs;
+  version = length
+      s.transactions;
+}
 
 abbrev pub happens : Metadata → State → Event → Step
 happens meta s (Connect c) = connect c s (connection_at c s)
-happens meta s (Receive c message) = on_known (λ known. with_reply Did (receive meta c message s known.phase)) s (connection_at c s)
+happens meta s (Receive c message) = on_known (λ known. with_reply Did (receive meta c message s known.phase)) s
+    (connection_at c s)
 happens meta s (Binary c) = on_known (λ known. with_reply Did (receive meta c Bad s known.phase)) s (connection_at c s)
 happens meta s (Timeout c) = on_known (λ known. with_reply Did (timed_out c s known.phase)) s (connection_at c s)
 happens meta s (Gone c) = on_known (λ known. with_reply Did (gone c s)) s (connection_at c s)

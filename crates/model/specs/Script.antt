@@ -1,13 +1,51 @@
 -- Scripts: their lines, and the outcome of a whole script. This project's own.
-use Rattle.std.specs.Prelude.{ℕ, ◌+◌, ◌^◌, Bool, true, false, ◌&&◌, ◌==◌, nat_lt, if◌then◌else◌, Option, Some, None, option_map, List, [], ◌∷◌, ◌++◌, length, take, drop, codes, decimal, Result, Ok, Err}
+use Rattle.std.specs.Prelude.{
+  ℕ,
+  ◌+◌,
+  ◌^◌,
+  Bool,
+  true,
+  false,
+  ◌&&◌,
+  ◌==◌,
+  nat_lt,
+  if◌then◌else◌,
+  Option,
+  Some,
+  None,
+  option_map,
+  List,
+  [],
+  ◌∷◌,
+  ◌++◌,
+  length,
+  take,
+  drop,
+  codes,
+  decimal,
+  Result,
+  Ok,
+  Err,
+}
 use Rattle.std.specs.List.{list_any, starts_with, before_first, after_first}
 use Rattle.std.specs.Str.{is_utf8}
 use Rattle.data_model.specs.declared.transaction.TxChange.{TxChange}
 use Rattle.data_model.specs.Form.{transaction}
 use Rattle.role_model.specs.declared.metadata.MetaFault.{MetaFault}
 use Rattle.role_model.specs.declared.metadata.MetaFault.TheVariants as fault
-use Rattle.role_model.specs.MetadataFaults.{metadata_of}
+use Rattle.role_model.specs.MetadataMeaning.{metadata_of}
 use Rattle.role_model.specs.declared.metadata.Metadata.{Metadata}
+use Rattle.model.specs.declared.script.ScriptReason.{ScriptReason}
+use Rattle.model.specs.declared.script.ScriptReason.TheVariants.{
+  Cut,
+  Size,
+  Metadata as BadMetadata,
+  NotEvent,
+  Transaction,
+  Known,
+  Unknown,
+  Unbuilt,
+}
 use Rattle.model.specs.Values.{same_text, number_of}
 use Rattle.model.specs.Messages.{Message}
 use Rattle.model.specs.State.{State, Event, opening}
@@ -33,7 +71,8 @@ lines (b ∷ bs) = if b == 10 then ([] ∷ (lines bs).0, (lines bs).1) else onto
 
 -- a number in decimal without leading zeros, below a limit
 abbrev pub read_number : ℕ → List ℕ → Option ℕ
-read_number limit text = if same_text text (decimal (number_of text)) && nat_lt (number_of text) limit then Some (number_of text) else None
+read_number limit text = if same_text text (decimal (number_of text)) && nat_lt (number_of text) limit
+    then Some (number_of text) else None
 
 -- One line of a script
 
@@ -65,7 +104,8 @@ is_space b = b == 32
 
 -- a connection, a space and a text, which may be empty
 abbrev pub of_text : List ℕ → Option Line
-of_text text = if list_any is_space text then option_map (λ c. Receive c (after_first is_space text)) (read_number (2 ^ 32) (before_first is_space text)) else None
+of_text text = if list_any is_space text then option_map (λ c. Receive c (after_first is_space text))
+    (read_number (2 ^ 32) (before_first is_space text)) else None
 
 abbrev pub begins : List ℕ → List ℕ → Bool
 begins text word = starts_with ◌==◌ text word
@@ -115,17 +155,6 @@ pub data Reading : Type 0 where
   Heading : (metadata : List ℕ) → Reading
   Running : (meta : Metadata) (state : State) → Reading
 
--- why a script ends before its end
-pub data Reason : Type 0 where
-  Cut : Reason
-  Size : Reason
-  BadMetadata : (fault : MetaFault) → Reason
-  NotEvent : Reason
-  NotTransaction : Reason
-  Known : Reason
-  Unknown : Reason
-  Unbuilt : Reason
-
 abbrev pub fault_name : MetaFault → List ℕ
 fault_name fault.TooLong = codes "TooLong"
 fault_name fault.Toml = codes "Toml"
@@ -140,47 +169,47 @@ fault_name fault.BadKind = codes "BadKind"
 fault_name fault.BadRole = codes "BadRole"
 fault_name fault.BadFilter = codes "BadFilter"
 
-abbrev pub reason_text : Reason → List ℕ
+abbrev pub reason_text : ScriptReason → List ℕ
 reason_text Cut = codes "cut"
 reason_text Size = codes "size"
 reason_text (BadMetadata fault) = codes "metadata " ++ fault_name fault
 reason_text NotEvent = codes "event"
-reason_text NotTransaction = codes "transaction"
+reason_text Transaction = codes "transaction"
 reason_text Known = codes "known"
 reason_text Unknown = codes "unknown"
 reason_text Unbuilt = codes "unbuilt"
 
--- a line was taken, with its transcript, or is at fault
-pub data Took : Type 0 where
-  Went : (reading : Reading) (text : List ℕ) → Took
-  Faulty : (reason : Reason) → Took
+-- a line went, with its transcript, or is at fault
+pub data LineOutcome : Type 0 where
+  Went : (reading : Reading) (text : List ℕ) → LineOutcome
+  Faulty : (reason : ScriptReason) → LineOutcome
 
-abbrev pub went : Metadata → Reached → Took
+abbrev pub went : Metadata → Reached → LineOutcome
 went meta r = Went (Running meta r.state) r.text
 
 -- an event, where it is built
-abbrev pub serves : Metadata → State → Event → Took
+abbrev pub serves : Metadata → State → Event → LineOutcome
 serves meta s e = if is_built meta s e then went meta (goes e (happens meta s e)) else Faulty Unbuilt
 
 -- a connection opens, which must not be known
-abbrev pub opens : Metadata → State → ℕ → Took
+abbrev pub opens : Metadata → State → ℕ → LineOutcome
 opens meta s c = if knows s c then Faulty Known else serves meta s (event.Connect c)
 
 -- what a line does on a connection that must be known
-abbrev pub on_known : State → ℕ → Took → Took
-on_known s c took = if knows s c then took else Faulty Unknown
+abbrev pub on_known : State → ℕ → LineOutcome → LineOutcome
+on_known s c outcome = if knows s c then outcome else Faulty Unknown
 
 -- a text of a client: the message that it is, where its form is built
-abbrev pub receives : Metadata → State → ℕ → Option Message → Took
+abbrev pub receives : Metadata → State → ℕ → Option Message → LineOutcome
 receives meta s c (Some message) = serves meta s (event.Receive c message)
 receives meta s c None = Faulty Unbuilt
 
-abbrev pub commits : Metadata → State → Option (List TxChange) → Took
+abbrev pub commits : Metadata → State → Option (List TxChange) → LineOutcome
 commits meta s (Some tx) = serves meta s (event.Commit tx)
-commits meta s None = Faulty NotTransaction
+commits meta s None = Faulty Transaction
 
 -- what a line does
-abbrev pub acts : Metadata → State → Line → Took
+abbrev pub acts : Metadata → State → Line → LineOutcome
 acts meta s Passed = Went (Running meta s) []
 acts meta s (Open c) = opens meta s c
 acts meta s (Receive c text) = on_known s c (receives meta s c (read_message text))
@@ -196,30 +225,35 @@ acts meta s (Drain c) = on_known s c (Faulty Unbuilt)
 acts meta s Report = Faulty Unbuilt
 acts meta s Poll = went meta (poll meta s)
 
-abbrev pub act : Metadata → State → Option Line → Took
+abbrev pub act : Metadata → State → Option Line → LineOutcome
 act meta s (Some line) = acts meta s line
 act meta s None = Faulty NotEvent
 
 -- the metadata ends: it has no fault, or its first fault is the line's
-abbrev pub begin : Result Metadata MetaFault → Took
+abbrev pub begin : Result Metadata MetaFault → LineOutcome
 begin (Ok meta) = Went (Running meta opening) []
 begin (Err f) = Faulty (BadMetadata f)
 
-abbrev pub take_line : Reading → List ℕ → Took
-take_line (Heading metadata) text = if same_text text (codes "---") then begin (metadata_of metadata) else Went (Heading (metadata ++ text ++ 10 ∷ [])) []
+abbrev pub take_line : Reading → List ℕ → LineOutcome
+take_line (Heading metadata) text = if same_text text (codes "---") then begin (metadata_of metadata)
+    else Went (Heading (metadata ++ text ++ 10 ∷ [])) []
 take_line (Running meta s) text = act meta s (read_line text)
 
 -- where reading stands after some lines: going on, or at the first fault
 pub data Standing : Type 0 where
   At : (reading : Reading) → Standing
-  Fault : (line : ℕ) (reason : Reason) → Standing
+  Fault : (line : ℕ) (reason : ScriptReason) → Standing
 
 pub record Ran : Type 0 where
   pub text : List ℕ
   pub standing : Standing
 
-abbrev pub ran_on : ℕ → Took → (Reading → Ran) → Ran
-ran_on number (Went reading text) more = record { text = text ++ (more reading).text; standing = (more reading).standing }
+abbrev pub ran_on : ℕ → LineOutcome → (Reading → Ran) → Ran
+ran_on number (Went reading text) more = record {
+  text = text
+      ++ (more reading).text;
+  standing = (more reading).standing;
+}
 ran_on number (Faulty reason) more = record { text = []; standing = Fault number reason }
 
 -- the transcript of lines, of which the first has this number
@@ -233,29 +267,34 @@ abbrev pub limit : ℕ
 limit = 67108864
 
 -- The transcript up to the end or the first fault, and that fault: its line and its reason.
-pub record Outcome : Type 0 where
+pub record ScriptOutcome : Type 0 where
   pub text : List ℕ
-  pub fault : Option (ℕ × Reason)
+  pub fault : Option (ℕ × ScriptReason)
 
 -- the script ends here: within a line, before the metadata's end, or as it should
-abbrev pub ended : ℕ → List ℕ → Reading → Option (ℕ × Reason)
+abbrev pub ended : ℕ → List ℕ → Reading → Option (ℕ × ScriptReason)
 ended number [] (Running meta s) = None
 ended number [] (Heading metadata) = Some (number, Cut)
 ended number (b ∷ rest) reading = Some (number, Cut)
 
-abbrev pub fault_at_end : Bool → ℕ → List ℕ → Standing → Option (ℕ × Reason)
+abbrev pub fault_at_end : Bool → ℕ → List ℕ → Standing → Option (ℕ × ScriptReason)
 fault_at_end too_long number rest (Fault line reason) = Some (line, reason)
 fault_at_end true number rest (At reading) = Some (number, Size)
 fault_at_end false number rest (At reading) = ended number rest reading
 
-abbrev pub outcome_of : Bool → Lines → Ran → Outcome
-outcome_of too_long parts ran = record { text = ran.text; fault = fault_at_end too_long (length parts.0 + 1) parts.1 ran.standing }
+abbrev pub outcome_of : Bool → Lines → Ran → ScriptOutcome
+outcome_of too_long parts ran = record {
+  text = ran.text;
+  fault = fault_at_end too_long (length parts.0 + 1) parts.1
+      ran.standing;
+}
 
 -- At most `limit` bytes are read; the lines that end within them run.
-abbrev pub outcome : List ℕ → Outcome
-outcome bytes = let parts = lines (take limit bytes) in outcome_of (nat_lt limit (length bytes)) parts (run_lines 1 (Heading []) parts.0)
+abbrev pub outcome : List ℕ → ScriptOutcome
+outcome bytes = let parts = lines (take limit bytes) in
+    outcome_of (nat_lt limit (length bytes)) parts (run_lines 1 (Heading []) parts.0)
 
-abbrev pub fault_line : Option (ℕ × Reason) → List ℕ
+abbrev pub fault_line : Option (ℕ × ScriptReason) → List ℕ
 fault_line None = []
 fault_line (Some (line, reason)) = codes "fault " ++ decimal line ++ 32 ∷ reason_text reason ++ 10 ∷ []
 

@@ -6,6 +6,7 @@ use Rattle.data_model.specs.declared.transaction.TxFault.{TxFault}
 use Rattle.role_model.specs.declared.session.Session.{Session}
 use Rattle.model.specs.Queries.{Query}
 use Rattle.model.specs.Messages.{Message, CloseReason}
+use Rattle.model.specs.declared.queued.Queued.{Queued}
 
 pub data Phase : Type 0 where
   Fresh : Phase
@@ -39,17 +40,17 @@ pub record Job : Type 0 where
   pub members : List Member
 
 -- Transactions are those accepted, in order. Subscriptions stand in order of their numbers, from 1, ended ones among
--- them. `due` ascends. `jobs` are the open ones, and `taken` counts all jobs.
+-- them. `due` ascends. `jobs` are the open ones, and `jobs_made` counts all jobs.
 pub record State : Type 0 where
   pub transactions : List (List TxChange)
   pub connections : List Connection
   pub subscriptions : List Subscription
   pub due : List ℕ
   pub jobs : List Job
-  pub taken : ℕ
+  pub jobs_made : ℕ
 
 abbrev pub opening : State
-opening = record { transactions = []; connections = []; subscriptions = []; due = []; jobs = []; taken = 0 }
+opening = record { transactions = []; connections = []; subscriptions = []; due = []; jobs = []; jobs_made = 0 }
 
 pub data Event : Type 0 where
   Connect : (connection : ℕ) → Event
@@ -90,11 +91,6 @@ pub data Reply : Type 0 where
   Done : (reason : CloseReason) → Reply
   Reported : (counts : Counts) → Reply
   Skipped : Reply
-
--- a text that is queued for a connection
-pub record Queued : Type 0 where
-  pub connection : ℕ
-  pub text : List ℕ
 
 -- a connection that is closed
 pub record Close : Type 0 where

@@ -3,11 +3,54 @@ use Rattle.std.specs.Prelude.{ℕ, zero, suc, max, List, [], ◌∷◌, ◌++◌
 use Rattle.std.specs.List.{flat_map, fold}
 use Rattle.json.specs.Print.{quoted}
 use Rattle.data_model.specs.declared.transaction.Reason.{Reason}
-use Rattle.data_model.specs.declared.transaction.Reason.TheVariants.{NoTable, NoColumn, WrongKind, NullGiven, NoRow, KeyTaken, UniqueTaken, TableFull}
+use Rattle.data_model.specs.declared.transaction.Reason.TheVariants.{
+  NoTable,
+  NoColumn,
+  WrongKind,
+  NullGiven,
+  NoRow,
+  KeyTaken,
+  UniqueTaken,
+  TableFull,
+}
 use Rattle.model.specs.Messages.{CloseReason, code, reason}
 use Rattle.role_model.specs.declared.metadata.Metadata.{Metadata}
-use Rattle.model.specs.State.{State, Event, Connect, Receive, Binary, Timeout, Gone, Commit, Tick, Take, Publish, Abandon, Drain, Report, Skip, Reply, ConnectionUnknown, ConnectionKnown, Committed, Declined, Ticked, Taken, Published, Abandoned, Sent, Done, Reported, Member, Job, Counts, Queued, Close, Step}
+use Rattle.model.specs.State.{
+  State,
+  Event,
+  Connect,
+  Receive,
+  Binary,
+  Timeout,
+  Gone,
+  Commit,
+  Tick,
+  Take,
+  Publish,
+  Abandon,
+  Drain,
+  Report,
+  Skip,
+  Reply,
+  ConnectionUnknown,
+  ConnectionKnown,
+  Committed,
+  Declined,
+  Ticked,
+  Taken,
+  Published,
+  Abandoned,
+  Sent,
+  Done,
+  Reported,
+  Member,
+  Job,
+  Counts,
+  Close,
+  Step,
+}
 use Rattle.model.specs.Run.{happens}
+use Rattle.model.specs.declared.queued.Queued.{Queued}
 
 -- a word, a space and a number
 abbrev pub numbered : List ℕ → ℕ → List ℕ
@@ -29,11 +72,13 @@ cohorts members = fold (λ n (m : Member). max n m.cohort) 0 members
 
 abbrev pub job_line : Job → List ℕ
 job_line job =
-    numbered (codes "job") job.number ++ numbered (codes " version") job.version ++ numbered (codes " cohorts") (cohorts job.members) ++ numbered (codes " members") (length job.members)
+    numbered (codes "job") job.number ++ numbered (codes " version") job.version
+    ++ numbered (codes " cohorts") (cohorts job.members) ++ numbered (codes " members") (length job.members)
 
 abbrev pub report_line : Counts → List ℕ
 report_line c =
-    numbered (codes "report connections") c.connections ++ numbered (codes " live") c.live ++ numbered (codes " due") c.due ++ numbered (codes " jobs") c.jobs ++ numbered (codes " version") c.version
+    numbered (codes "report connections") c.connections ++ numbered (codes " live") c.live
+    ++ numbered (codes " due") c.due ++ numbered (codes " jobs") c.jobs ++ numbered (codes " version") c.version
 
 -- a close's code, and its reason as a JSON string
 abbrev pub close_text : CloseReason → List ℕ
@@ -92,7 +137,7 @@ first_line Skip reply = codes "skip"
 
 -- a line for each queued text, and then one for each close
 abbrev pub queued_line : Queued → List ℕ
-queued_line q = numbered (codes ">") q.connection ++ 32 ∷ q.text ++ 10 ∷ []
+queued_line q = numbered (codes ">") q.conn ++ 32 ∷ q.text ++ 10 ∷ []
 
 abbrev pub close_line : Close → List ℕ
 close_line c = numbered (codes "!") c.connection ++ 32 ∷ close_text c.reason ++ 10 ∷ []
@@ -113,7 +158,8 @@ goes_on first more = record { state = (more first.state).state; text = first.tex
 
 -- A take, and the publication of the taken job, whose number is that of all jobs taken.
 abbrev pub take_and_publish : Metadata → State → Reached
-take_and_publish meta s = goes_on (goes Take (happens meta s Take)) (λ t. goes (Publish t.taken) (happens meta t (Publish t.taken)))
+take_and_publish meta s = goes_on (goes Take (happens meta s Take))
+    (λ t. goes (Publish t.jobs_made) (happens meta t (Publish t.jobs_made)))
 
 -- takes and publications for as long as somebody is due, but no more than so often
 abbrev pub publish_due : Metadata → ℕ → State → List ℕ → Reached

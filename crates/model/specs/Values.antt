@@ -1,5 +1,21 @@
--- Tests on texts and values, names, numbers, texts joined by commas, and the pieces of a text. This project's own.
-use Rattle.std.specs.Prelude.{ℕ, ◌+◌, ◌-◌, ◌*◌, Bool, ◌&&◌, ◌==◌, nat_le, nat_lt, if◌then◌else◌, List, [], ◌∷◌, ◌++◌, length}
+-- Tests on texts and values, names, numbers, and the pieces of a text. This project's own.
+use Rattle.std.specs.Prelude.{
+  ℕ,
+  ◌+◌,
+  ◌-◌,
+  ◌*◌,
+  Bool,
+  ◌&&◌,
+  ◌==◌,
+  nat_le,
+  nat_lt,
+  if◌then◌else◌,
+  List,
+  [],
+  ◌∷◌,
+  ◌++◌,
+  length,
+}
 use Rattle.std.specs.Ordering.{is_eq}
 use Rattle.std.specs.List.{flat_map, fold, list_all}
 use lib.Pointwise.{pointwise}
@@ -29,11 +45,6 @@ is_name text = is_short text && list_all is_lower text
 -- the number that decimal digits name
 abbrev pub number_of : List ℕ → ℕ
 number_of = fold (λ n b. n * 10 + (b - 48)) 0
-
--- texts with a comma between two
-abbrev pub joined : List (List ℕ) → List ℕ
-joined [] = []
-joined (t ∷ ts) = t ++ flat_map (λ u. 44 ∷ u) ts
 
 -- the pieces of a text between the bytes that pass a test
 abbrev pub onto_first : ℕ → List (List ℕ) → List (List ℕ)

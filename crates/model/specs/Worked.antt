@@ -15,8 +15,9 @@ use Rattle.data_model.specs.declared.transaction.TxChange.TheVariants.{Insert, U
 use Rattle.role_model.specs.declared.metadata.Metadata.{Metadata}
 use Rattle.role_model.specs.declared.metadata.RoleDef.{RoleDef}
 use Rattle.model.specs.Messages.{Init, Subscribe, Complete}
-use Rattle.model.specs.State.{Event, Connect, Receive, Commit, Tick, Take, Publish, Abandon, Reply, Did, Ticked, Nobody, Taken, NotOpen, Published, Committed, Abandoned, Queued}
+use Rattle.model.specs.State.{Event, Connect, Receive, Commit, Tick, Take, Publish, Abandon, Reply, Did, Ticked, Nobody, Taken, NotOpen, Published, Committed, Abandoned}
 use Rattle.model.specs.Run.{steps}
+use Rattle.model.specs.declared.queued.Queued.{Queued}
 
 abbrev told : Metadata → List Event → List Queued
 told meta es = flat_map (λ s. s.queued) (steps meta es)
@@ -63,10 +64,10 @@ abbrev renames : List ℕ → List TxChange
 renames name = Update (codes "user") (cell (codes "id") (val.Big (pos 1)) ∷ []) (cell (codes "name") (val.Text name) ∷ []) ∷ []
 
 abbrev ack : ℕ → Queued
-ack c = record { connection = c; text = codes "{\"type\":\"connection_ack\"}" }
+ack c = record { conn = c; text = codes "{\"type\":\"connection_ack\"}" }
 
 abbrev says : List ℕ → Queued
-says text = record { connection = 1; text = text }
+says text = record { conn = 1; text = text }
 
 abbrev job : ℕ → ℕ → List ℕ → Reply
 job number version members = Taken (record { number = number; version = version; members = map (λ n. record { subscription = n; cohort = 1 }) members })

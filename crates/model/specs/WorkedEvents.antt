@@ -17,11 +17,13 @@ use Rattle.role_model.specs.declared.session.Identity.TheVariants as identity
 use Rattle.role_model.specs.Sessions.{identity_of}
 use Rattle.model.specs.Queries.{Query, QueryKind, Once, Live, Stream, Word, QueryWord, SubscriptionWord, Columns}
 use Rattle.model.specs.Messages.{Init, Subscribe, Complete, Ping, Pong, Bad, CloseReason, Invalid, Unauthorized, Forbidden, InitTimeout, TooManyInits, Exists, exists_reason, reason}
+use Rattle.wire_model.specs.CloseReasons.{exists_text}
 use Rattle.model.specs.Admission.{Unread, admits}
 use Rattle.model.specs.Built.{is_admitted}
 use Rattle.model.specs.Worked.{column, table, metadata, cell}
-use Rattle.model.specs.State.{State, Event, Connect, Receive, Binary, Timeout, Gone, Commit, Tick, Take, Publish, Abandon, Drain, Report, Reply, ConnectionUnknown, ConnectionKnown, Did, Committed, Declined, Ticked, Nobody, Taken, NotOpen, Abandoned, Sent, Empty, Done, Reported, Queued, Close, Step, opening, Subscription, Connection, Acknowledged}
+use Rattle.model.specs.State.{State, Event, Connect, Receive, Binary, Timeout, Gone, Commit, Tick, Take, Publish, Abandon, Drain, Report, Reply, ConnectionUnknown, ConnectionKnown, Did, Committed, Declined, Ticked, Nobody, Taken, NotOpen, Abandoned, Sent, Empty, Done, Reported, Close, Step, opening, Subscription, Connection, Acknowledged}
 use Rattle.model.specs.Run.{steps, steps_from}
+use Rattle.model.specs.declared.queued.Queued.{Queued}
 
 -- one table, of users
 abbrev users : Metadata
@@ -46,7 +48,7 @@ abbrev ack_text : List ℕ
 ack_text = codes "{\"type\":\"connection_ack\"}"
 
 abbrev to : ℕ → List ℕ → Queued
-to c text = record { connection = c; text = text }
+to c text = record { conn = c; text = text }
 
 abbrev closed : ℕ → CloseReason → Close
 closed c reason = record { connection = c; reason = reason }
@@ -59,14 +61,14 @@ abbrev live_id : List Event
 live_id = Connect 1 ∷ init 1 ∷ asks 1 (codes "a") ∷ asks 1 (codes "a") ∷ asks 1 (codes "b") ∷ Report ∷ Drain 1 ∷ Drain 1 ∷ Drain 1 ∷ Gone 1 ∷ Drain 1 ∷ []
 
 pub live_id_closes : closes live_id ≡ closed 1 (Exists (codes "Subscriber for a already exists")) ∷ []
-unfolding escape_byte
+unfolding escape_byte exists_text
 live_id_closes = refl
 
 pub live_id_replies :
     replies live_id ≡
     Did ∷ Did ∷ Did ∷ Did ∷ Did ∷ Reported (record { connections = 1; live = 0; due = 0; jobs = 0; version = 0 }) ∷ Sent ack_text
     ∷ Done (Exists (codes "Subscriber for a already exists")) ∷ Done (Exists (codes "Subscriber for a already exists")) ∷ Did ∷ ConnectionUnknown ∷ []
-unfolding escape_byte
+unfolding escape_byte exists_text
 live_id_replies = refl
 
 -- so many letters
@@ -76,9 +78,11 @@ letters (suc n) = 97 ∷ letters n
 
 -- a reason ends before the character that doesn't fit as a whole
 pub reason_is_cut : reason (exists_reason (letters 107 ++ 195 ∷ 169 ∷ 122 ∷ [])) ≡ codes "Subscriber for " ++ letters 107
+unfolding exists_text
 reason_is_cut = refl
 
 pub reason_is_full : length (reason (exists_reason (letters 106 ++ 195 ∷ 169 ∷ 122 ∷ []))) ≡ 123
+unfolding exists_text
 reason_is_full = refl
 
 -- the same id on two connections is two subscriptions

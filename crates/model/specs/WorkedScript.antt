@@ -8,7 +8,8 @@ use Rattle.scalar_val.specs.declared.val.Kind.TheVariants as kind
 use Rattle.role_model.specs.declared.metadata.Metadata.{Metadata}
 use Rattle.model.specs.State.{opening}
 use Rattle.model.specs.Worked.{column, table, metadata}
-use Rattle.model.specs.Script.{Running, lines, run_lines, Ran, Standing, Fault, Known, Unknown, NotEvent, Unbuilt}
+use Rattle.model.specs.Script.{Running, lines, run_lines, Ran, Standing, Fault}
+use Rattle.model.specs.declared.script.ScriptReason.TheVariants.{Known, Unknown, NotEvent, Unbuilt}
 
 -- one table, of users
 abbrev pub users : Metadata

@@ -1,9 +1,7 @@
 pub mod Orders
 pub mod Cuts
 pub mod Joins
-pub mod Fitting
 pub mod Scans
 pub mod Parts
-pub mod Readiness
 pub mod Results
 pub mod Examples

@@ -1,4 +1,3 @@
 pub mod Example
-pub mod Outcomes
 pub mod Seen
-pub mod Selections
+pub mod Settings

@@ -1,8 +1,8 @@
-//! The rows that are taken of those in order.
+//! The cut of rows in order.
 ghost use Rattle.std.specs.Prelude.{◌≡◌, drop, unwrap_or};
-ghost use Rattle.query_model.specs.Taken.{at_most};
+ghost use Rattle.plan_model.specs.Taken.{at_most, trimmed};
+ghost use Rattle.plan_model.specs.Planned.{extent};
 ghost use Rattle.nested_eval.specs.Seen.{seen};
-ghost use Rattle.nested_eval.specs.Selections.{extent, trimmed};
 
 use crate::values::{number_from, number_if_any};
 use plan_core::{Binding, Select, Shape};
@@ -37,7 +37,7 @@ fn cap_of(select: &Select) -> Option<usize>
 
 /// The rows that a selection takes of those in its order: past the offset, within the limit, or the first one, or a
 /// stream's next; and never more than the permission's limit.
-pub(crate) fn taken<'s, 'a>(
+pub(crate) fn trimmed<'s, 'a>(
     select: &Select,
     binding: &Binding,
     rows: &'s [&'a Row],

@@ -1,14 +1,13 @@
 //! Rows in order.
 ghost use Rattle.std.specs.Prelude.{◌≡◌, map, IfOk};
 ghost use Rattle.scalar_val.specs.ValOrder.{val_cmp};
-ghost use Rattle.request_model.specs.Ordered.{ordered};
-ghost use Rattle.query_model.specs.Taken.{directed, null_cmp, entry_cmp, rows_cmp};
+ghost use Rattle.scalar_val.specs.Ordered.{ordered};
+ghost use Rattle.plan_model.specs.Taken.{directed, null_cmp, entry_cmp, rows_cmp};
 ghost use Rattle.nested_eval.specs.Seen.{seen};
 
-use crate::values::{cell_at, has_no_value};
 use plan_core::Order;
 use row_store::Row;
-use scalar_val::{NoMemory, Val, cmp};
+use scalar_val::{NoMemory, Val, cell, cmp};
 use std::cmp::Ordering;
 
 fn compare_values(descending: bool, a: &Val, b: &Val) -> Ordering
@@ -37,14 +36,11 @@ fn compare_entry(order: &Order, a: &[Val], b: &[Val]) -> Ordering
     ensures { result ≡ entry_cmp order.now a.now b.now }
 {
     let null = Val::Null;
-    let (a, b) = (
-        cell_at(a, order.column, &null),
-        cell_at(b, order.column, &null),
-    );
+    let (a, b) = (cell(a, order.column, &null), cell(b, order.column, &null));
     nulls_apart(
         order.nulls_first,
-        has_no_value(a),
-        has_no_value(b),
+        a.is_null(),
+        b.is_null(),
         compare_values(order.descending, a, b),
     )
 }

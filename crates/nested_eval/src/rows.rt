@@ -1,26 +1,28 @@
 //! The rows of a table that a selection shows, in its order.
-ghost use Rattle.std.specs.Prelude.{◌≡◌, ◌++◌, ◌∷◌, [], length, filter, map, if◌then◌else◌, IsTrue, IfOk, OnOk};
+ghost use Rattle.std.specs.Prelude.{◌≡◌, ◌++◌, ◌∷◌, ◌<◌, [], length, filter, take, if◌then◌else◌, IsTrue, IfOk, OnOk};
 ghost use Rattle.std.specs.List.{AllByRecursion};
-ghost use Rattle.role_model.specs.declared.filter.Op.TheVariants.{Eq};
-ghost use Rattle.role_model.specs.Truth.{fits, is_yes, truth_of, compared};
-ghost use Rattle.data_model.specs.Rows.{cell};
-ghost use Rattle.data_model.specs.Transactions.{rows_at};
-ghost use Rattle.query_model.specs.Taken.{joins};
-ghost use Rattle.query_model.specs.Plans.{passes};
+ghost use Rattle.plan_model.specs.declared.filter.Op.TheVariants.{Eq};
+ghost use Rattle.plan_model.specs.FilterFits.{fits};
+ghost use Rattle.plan_model.specs.Truth.{is_yes, truth_of, compared};
+ghost use Rattle.scalar_val.specs.Values.{cell};
+ghost use Rattle.plan_model.specs.Taken.{joins, arranged, trimmed, taken};
+ghost use Rattle.plan_model.specs.Planned.{passes, extent, wanted};
 ghost use Rattle.nested_eval.specs.Seen.{seen};
-ghost use Rattle.nested_eval.specs.Selections.{extent, arranged, wanted, is_ready};
+ghost use Rattle.nested_eval.specs.Settings.{allowed, runs, is_shown, wanted_below};
 
 use crate::order::in_order;
-use crate::values::{cell_at, is_equal, stands_beyond};
+use crate::values::{is_equal, stands_beyond};
 use plan_core::{Binding, Order, Select, Shape, TruthValue, truth};
 use row_store::{Row, Scan, Snapshot};
-use scalar_val::{NoMemory, Steps, Str, Val};
+use scalar_val::{NoMemory, Steps, Str, Val, cell};
 use std::alloc::Global;
-use std::sync::ledger::Ledger;
+use std::marker::Brand;
+use std::sync::ledger::{Blank, Ledger};
 
 /// What a plan is run with: the type names of the tables, the values, and the database.
 #[derive(Clone, Copy)]
 pub(crate) struct Setting<'a> {
+    pub(crate) alloc: Global,
     pub(crate) names: &'a [Str],
     pub(crate) binding: &'a Binding,
     pub(crate) snapshot: &'a Snapshot,
@@ -38,7 +40,7 @@ fn agrees(parent: &[Val], from: u32, row: &[Val], to: u32) -> bool
     ensures { result ≡ is_yes (compared Eq (cell row.now to) (cell parent.now from)) }
 {
     let null = Val::Null;
-    is_equal(cell_at(row, to, &null), cell_at(parent, from, &null))
+    is_equal(cell(row, to, &null), cell(parent, from, &null))
 }
 
 fn joins_by(from: &[u32], to: &[u32], parent: &[Val], row: &[Val]) -> bool
@@ -58,7 +60,7 @@ fn joins_by(from: &[u32], to: &[u32], parent: &[Val], row: &[Val]) -> bool
 }
 
 fn joins(join: &Join<'_>, row: &[Val]) -> bool
-    ensures { result ≡ joins join.now.from.now join.now.to.now join.now.parent.now row.now }
+    ensures { result ≡ allowed join.now row.now }
 {
     joins_by(join.from, join.to, join.parent, row)
 }
@@ -73,7 +75,7 @@ fn passes(shape: &Shape, binding: &Binding, row: &[Val]) -> bool
             ..
         } => {
             let null = Val::Null;
-            stands_beyond(*descending, &binding.cursor, cell_at(row, *column, &null))
+            stands_beyond(*descending, &binding.cursor, cell(row, *column, &null))
         }
         _ => true,
     }
@@ -91,7 +93,7 @@ fn meets(select: &Select, binding: &Binding, row: &[Val]) -> bool
 
 fn is_shown(select: &Select, binding: &Binding, join: &Join<'_>, row: &[Val]) -> bool
     requires { IsTrue (fits (length row.now) binding.now select.now.filter) }
-    ensures { result ≡ (wanted binding.now (joins join.now.from.now join.now.to.now join.now.parent.now) select.now).shown row.now }
+    ensures { result ≡ (wanted binding.now (allowed join.now) select.now).shown row.now }
 {
     joins(join, row) && meets(select, binding, row) && passes(&select.shape, binding, row)
 }
@@ -106,22 +108,63 @@ fn keep<'a>(rows: &mut Vec<&'a Row>, row: &'a Row, is_shown: bool) -> Result<(),
     Ok(())
 }
 
-fn shown_rows<'a, L: Ledger>(
-    alloc: Global,
-    select: &Select,
-    binding: &Binding,
-    join: &Join<'_>,
-    mut scan: Scan<'a>,
-    steps: &mut Steps<L>,
-) -> Result<Vec<&'a Row>, NoMemory>
-    requires { AllByRecursion (λ row. IsTrue (fits (length row) binding.now select.now.filter)) scan }
-    ensures { IfOk result (λ rows. seen rows.items ≡ filter (wanted binding.now (joins join.now.from.now join.now.to.now join.now.parent.now) select.now).shown scan.entry) }
+fn one_row<'a>(alloc: Global, row: &'a Row) -> Result<Vec<&'a Row>, NoMemory>
+    ensures { IfOk result (λ rows. seen rows.items ≡ row.now ∷ []) }
 {
     let mut rows = Vec::new(alloc);
-    while let Some(row) = scan.next(steps) {
-        keep(&mut rows, row, is_shown(select, binding, join, row.cells()))?;
+    rows.push(row)?;
+    Ok(rows)
+}
+
+/// The rows of a scan that a selection shows. The scan counts on a counter over a blank ledger of its own.
+fn shown_rows<'a, L: Ledger>(
+    setting: &Setting<'a>,
+    select: &Select,
+    join: &Join<'_>,
+    mut scan: Scan<'a>,
+    blank: Blank,
+) -> Result<Vec<&'a Row>, NoMemory>
+    requires name { blank.name ≡ L.name }
+    requires parts { blank.parts ≡ L.parts }
+    requires some { 0 < blank.parts }
+    requires fitting { AllByRecursion (λ row. IsTrue (fits (length row) setting.now.binding.now select.now.filter)) scan }
+    ensures { IfOk result (λ rows. seen rows.items ≡
+        filter (is_shown setting.now select.now join.now) scan.entry) }
+{
+    let mut steps = Steps::<L>::new(blank);
+    let mut rows = Vec::new(setting.alloc);
+    while let Some(row) = scan.next(&mut steps) {
+        keep(
+            &mut rows,
+            row,
+            is_shown(select, setting.binding, join, row.cells()),
+        )?;
     }
     Ok(rows)
+}
+
+/// The first row of a scan that a selection shows, if there is one.
+fn first_shown<'a, L: Ledger>(
+    setting: &Setting<'a>,
+    select: &Select,
+    join: &Join<'_>,
+    mut scan: Scan<'a>,
+    blank: Blank,
+) -> Result<Vec<&'a Row>, NoMemory>
+    requires name { blank.name ≡ L.name }
+    requires parts { blank.parts ≡ L.parts }
+    requires some { 0 < blank.parts }
+    requires fitting { AllByRecursion (λ row. IsTrue (fits (length row) setting.now.binding.now select.now.filter)) scan }
+    ensures { IfOk result (λ rows. seen rows.items ≡
+        take 1 (filter (is_shown setting.now select.now join.now) scan.entry)) }
+{
+    let mut steps = Steps::<L>::new(blank);
+    while let Some(row) = scan.next(&mut steps) {
+        if is_shown(select, setting.binding, join, row.cells()) {
+            return one_row(setting.alloc, row);
+        }
+    }
+    Ok(Vec::new(setting.alloc))
 }
 
 fn arrange<'a>(
@@ -129,7 +172,8 @@ fn arrange<'a>(
     binding: &Binding,
     rows: Vec<&'a Row>,
 ) -> Result<Vec<&'a Row>, NoMemory>
-    ensures { IfOk result (λ sorted. seen sorted.items ≡ arranged (extent binding.now select.now) (seen rows.entry.items)) }
+    ensures { IfOk result (λ sorted. seen sorted.items ≡
+        arranged (extent binding.now select.now) (seen rows.entry.items)) }
 {
     match &select.shape {
         Shape::List => in_order(rows, select.order.as_slice()),
@@ -149,21 +193,24 @@ fn arrange<'a>(
     }
 }
 
-/// The rows that a selection shows of those that join the parent, in the selection's order. It counts a step for each
-/// row of the table.
-pub(crate) fn arranged_rows<'a, L: Ledger>(
-    alloc: Global,
+/// The rows of which a selection takes its own, in its order: where it gives a single row the first that it shows, and
+/// else all that it shows.
+pub(crate) fn arranged_rows<'a>(
     setting: &Setting<'a>,
     select: &Select,
     join: &Join<'_>,
-    steps: &mut Steps<L>,
 ) -> Result<Vec<&'a Row>, NoMemory>
-    requires { IsTrue (is_ready setting.now.snapshot.now setting.now.binding.now select.now) }
-    ensures { IfOk result (λ rows. seen rows.items ≡ arranged (extent setting.now.binding.now select.now)
-        (filter (wanted setting.now.binding.now (joins join.now.from.now join.now.to.now join.now.parent.now) select.now).shown (rows_at setting.now.snapshot.now.tables select.now.table))) }
+    requires { IsTrue (runs setting.now select.now) }
+    ensures { IfOk result (λ rows. trimmed (extent setting.now.binding.now select.now) select.now.cap (seen rows.items)
+        ≡ taken setting.now.snapshot.now.tables (wanted_below setting.now select.now join.now)) }
 {
     setting.snapshot.fits();
     let scan = setting.snapshot.scan(select.table);
-    let rows = shown_rows(alloc, select, setting.binding, join, scan, steps)?;
-    arrange(select, setting.binding, rows)
+    match &select.shape {
+        Shape::One => first_shown::<Brand>(setting, select, join, scan, Blank::new(1)),
+        _ => {
+            let rows = shown_rows::<Brand>(setting, select, join, scan, Blank::new(1))?;
+            arrange(select, setting.binding, rows)
+        }
+    }
 }

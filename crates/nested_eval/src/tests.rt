@@ -248,18 +248,17 @@ fn streamed(
     })
 }
 
-fn evaluate<L: Ledger>(
+fn evaluate(
     alloc: Global,
     plan: &Plan,
     binding: &Binding,
     snapshot: &Snapshot,
-    steps: &mut Steps<L>,
 ) -> Result<Outcome, NoMemory>
     requires names { plan.now.names ≡ codes "item" ∷ [] }
     requires root { RootFits plan.now.root }
     requires tables { snapshot.now.catalog.tables ≡ items }
 {
-    eval(alloc, plan, binding, snapshot, steps)
+    eval(alloc, plan, binding, snapshot)
 }
 
 fn run<L: Ledger>(
@@ -281,7 +280,7 @@ fn run<L: Ledger>(
         session: ValList::new(alloc),
         cursor,
     };
-    evaluate(alloc, &plan, &binding, &snapshot, steps)
+    evaluate(alloc, &plan, &binding, &snapshot)
 }
 
 fn related_items<L: Ledger>(alloc: Global, blank: Blank) -> Result<Outcome, NoMemory>

@@ -59,3 +59,12 @@ fn reserved_room_takes_texts(rt: HostRuntime) -> Result<(), Fail> {
     }
     Ok(())
 }
+
+fn is_send_and_sync<T: Send + Sync + Drop>(_value: T) {}
+
+#[test]
+fn texts_and_queues_may_be_shared_by_threads(rt: HostRuntime) -> Result<(), Fail> {
+    is_send_and_sync(OutText::of(rt.alloc(), b"a")?);
+    is_send_and_sync(Outbox::new(rt.alloc()));
+    Ok(())
+}

@@ -35,6 +35,7 @@ impl OutText {
         Ok(OutText { bytes })
     }
 
+    /// The bytes of the text.
     pub fn as_bytes(&self) -> &[u8]
         ensures { result.now ≡ self.now }
     {

@@ -1,6 +1,6 @@
 ghost use Rattle.std.specs.Prelude.{◌≡◌, take, IfOk, IfErr};
 
-use role_model::{Binding, Slot, SlotList, ValList};
+use plan_model::{Binding, Slot, SlotList, ValList};
 use scalar_val::{NoMemory, Val, copy_val};
 use std::alloc::Global;
 

@@ -1,11 +1,15 @@
 ghost use Rattle.std.specs.Prelude.{◌≡◌, ◌<◌, [], ◌∷◌, map, length, slice_get, IsTrue};
 ghost use Rattle.std.specs.List.{list_all};
 ghost use Rattle.std.specs.Option.{option_copied};
-ghost use Rattle.role_model.specs.Truth.{truth_of, all_of, any_of, among, compared, holds, negated, negated_if, known, value_at, null_as_wanted, is_null, is_true, operand_value, item_values, fits, operand_fits, items_fit, itself, is_one, is_many, one_value, many_values};
+ghost use Rattle.plan_model.specs.Truth.{truth_of, all_of, any_of, among, compared, holds, negated, negated_if, known};
+ghost use Rattle.plan_model.specs.Truth.{null_as_wanted};
+ghost use Rattle.scalar_val.specs.Values.{cell, is_null};
+ghost use Rattle.plan_model.specs.Values.{is_true, operand_value, item_values, one_value};
+ghost use Rattle.plan_model.specs.Values.{many_values};
+ghost use Rattle.plan_model.specs.FilterFits.{fits, operand_fits, items_fit, itself, is_one, is_many};
 
-use role_model::{Binding, Filter, Items, Op, Operand, Slot, TruthValue};
+use plan_model::{Binding, Filter, Items, Op, Operand, Slot, TruthValue};
 use scalar_val::{Val, cmp};
-use std::cmp::Ordering;
 
 fn both(a: TruthValue, b: TruthValue) -> TruthValue
     ensures { result ≡ all_of (a ∷ b ∷ []) }
@@ -53,16 +57,16 @@ fn known_as(holds: bool) -> TruthValue
     }
 }
 
-fn order_holds(op: Op, order: Ordering) -> bool
-    ensures { result ≡ holds op order }
+fn holds(op: Op, cell: &Val, value: &Val) -> bool
+    ensures { result ≡ holds op cell.now value.now }
 {
     match op {
-        Op::Eq => order.is_eq(),
-        Op::Neq => order.is_ne(),
-        Op::Gt => order.is_gt(),
-        Op::Gte => order.is_ge(),
-        Op::Lt => order.is_lt(),
-        Op::Lte => order.is_le(),
+        Op::Eq => cmp(cell, value).is_eq(),
+        Op::Neq => cmp(cell, value).is_ne(),
+        Op::Gt => cmp(cell, value).is_gt(),
+        Op::Gte => cmp(cell, value).is_ge(),
+        Op::Lt => cmp(cell, value).is_lt(),
+        Op::Lte => cmp(cell, value).is_le(),
     }
 }
 
@@ -71,16 +75,7 @@ fn compare(op: Op, cell: &Val, value: &Val) -> TruthValue
 {
     match (cell, value) {
         (Val::Null, _) | (_, Val::Null) => TruthValue::Unknown,
-        _ => known_as(order_holds(op, cmp(cell, value))),
-    }
-}
-
-fn has_no_value(cell: &Val) -> bool
-    ensures { result ≡ is_null cell.now }
-{
-    match cell {
-        Val::Null => true,
-        _ => false,
+        _ => known_as(holds(op, cell, value)),
     }
 }
 
@@ -96,7 +91,7 @@ fn says_true(value: &Val) -> bool
 fn null_test(cell: &Val, want: &Val) -> TruthValue
     ensures { result ≡ null_as_wanted cell.now want.now }
 {
-    if has_no_value(cell) {
+    if cell.is_null() {
         known_as(says_true(want))
     } else {
         known_as(!says_true(want))
@@ -136,7 +131,7 @@ fn value_of<'a>(operand: &'a Operand, binding: &'a Binding) -> &'a Val
 
 fn cell_at(cells: &[Val], column: u32) -> &Val
     requires { column < length cells.now }
-    ensures { result.now ≡ value_at (slice_get cells.now column) }
+    ensures { result.now ≡ cell cells.now column }
 {
     &cells[column as usize]
 }
@@ -190,7 +185,7 @@ fn among_test(cell: &Val, negated: bool, items: &Items, binding: &Binding) -> Tr
 /// Whether a row meets a condition, with the values of a binding. It needs a condition whose columns are the row's,
 /// whose slots the binding has and fills as they are used, and whose null tests want a boolean. It takes no memory.
 #[cycle(truth)]
-#[tactic(auto, using(role_model::proofs::Truths::truths))]
+#[tactic(auto, using(plan_model::proofs::Truths::truths))]
 pub fn truth(filter: &Filter, cells: &[Val], binding: &Binding) -> TruthValue
     requires { IsTrue (fits (length cells.now) binding.now filter.now) }
     ensures { result ≡ truth_of binding.now filter.now cells.now }

@@ -8,7 +8,7 @@ mod tests;
 
 pub use binding::copy_binding;
 pub use condition::truth;
-pub use role_model::{
+pub use plan_model::{
     Binding, ColumnList, Field, FieldList, Filter, FilterList, Items, Op, Operand, OperandList,
     Order, OrderList, Plan, Select, Shape, Slot, SlotList, StrList, TruthValue, ValList,
 };

@@ -1,6 +1,6 @@
 ghost use Rattle.std.specs.Prelude.{◌≡◌, IsTrue, IfOk};
-ghost use Rattle.role_model.specs.declared.filter.Binding.{Binding};
-ghost use Rattle.role_model.specs.Truth.{fits};
+ghost use Rattle.plan_model.specs.declared.filter.Binding.{Binding};
+ghost use Rattle.plan_model.specs.FilterFits.{fits};
 
 use crate::{
     Binding, Filter, Items, Op, Operand, OperandList, Slot, SlotList, TruthValue, ValList,

@@ -9,7 +9,7 @@ use Rattle.request_model.specs.declared.document.GPair.{GPair}
 use Rattle.request_model.specs.declared.document.TypeRef.TheVariants as type
 use Rattle.request_model.specs.declared.flat.FlatField.{FlatField}
 use Rattle.request_model.specs.declared.flat.Flat.{Flat}
-use Rattle.request_model.specs.declared.flat.Word.TheVariants as word
+use Rattle.scalar_val.specs.declared.word.Word.TheVariants as word
 use Rattle.request_model.specs.Strings.{Text}
 use Rattle.request_model.specs.declared.document.Selection.TheVariants as s
 use Rattle.request_model.specs.declared.document.OpWord.TheVariants as op
@@ -180,7 +180,7 @@ mutation_read = record {
 
 not_served : Admits users admin (codes "mutation { user { id } }") None no_members (Err (refusal fault.NotServed []))
 unfolding mutation_document
-not_served = unselected mutation_read (chosen_refused refl (inl (refl, refl)))
+not_served = unselected mutation_read (chosen_refused refl (inl (refl, refl))) refl
 
 -- subscription { ...F }
 spread_document : Document
@@ -199,4 +199,4 @@ spread_read = record {
 
 unknown_fragment : Admits users admin (codes "subscription { ...F }") None no_members (Err (refusal fault.UnknownFragment []))
 unfolding spread_document
-unknown_fragment = unselected spread_read (chosen_refused refl (inr ((λ e. cc), inl (inl (simp selections), refl))))
+unknown_fragment = unselected spread_read (chosen_refused refl (inr ((λ e. cc), inl (inl (simp selections), refl)))) refl

@@ -1,3 +1,4 @@
+pub mod Positions
 pub mod QueryRules
 mod Samples
 mod ResultRows
@@ -7,3 +8,7 @@ mod PlanRows
 mod VariableRows
 mod StreamRows
 mod OperandRows
+mod ConditionRows
+mod RowRows
+mod RefusalRows
+mod AcceptanceRows

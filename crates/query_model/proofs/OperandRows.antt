@@ -1,5 +1,5 @@
 -- Worked rows of operands from variables, of what a role sees, of session slots and of permission limits.
-use Rattle.std.proofs.Common.{◌≡◌, List, [], ◌∷◌, map, Option, Some, None, Result, Ok, Err, true, false}
+use Rattle.std.proofs.Common.{◌≡◌, List, [], ◌∷◌, map, Option, Some, None, true, false}
 use Rattle.std.specs.Prelude.{codes}
 use Rattle.std.specs.Fmt.{digits}
 use Rattle.json.specs.Print.{escape_byte}
@@ -7,15 +7,15 @@ use Rattle.serde_json.specs.Data.{no_members}
 use Rattle.scalar_val.specs.declared.val.Kind.TheVariants as kind
 use Rattle.scalar_val.specs.declared.val.Val.TheVariants as val
 use Rattle.data_model.specs.Rows.{Database}
-use Rattle.role_model.specs.declared.filter.Filter.TheVariants as filter
-use Rattle.role_model.specs.declared.filter.Op.TheVariants as compare
-use Rattle.role_model.specs.declared.filter.Operand.TheVariants as operand
+use Rattle.plan_model.specs.declared.filter.Filter.TheVariants as filter
+use Rattle.plan_model.specs.declared.filter.Op.TheVariants as compare
+use Rattle.plan_model.specs.declared.filter.Operand.TheVariants as operand
 use Rattle.role_model.specs.declared.metadata.LinkDef.{LinkDef}
 use Rattle.role_model.specs.declared.metadata.Metadata.{Metadata}
 use Rattle.role_model.specs.declared.metadata.RoleDef.{RoleDef}
 use Rattle.role_model.specs.Roles.{View}
 use Rattle.role_model.specs.Texts.{Texts}
-use Rattle.role_model.proofs.Truths.{truths}
+use Rattle.plan_model.proofs.Truths.{truths}
 use Rattle.request_model.specs.declared.document.GValue.{GValue}
 use Rattle.request_model.specs.declared.document.GValue.TheVariants as v
 use Rattle.request_model.specs.declared.document.GPair.{GPair}
@@ -24,31 +24,19 @@ use Rattle.request_model.specs.declared.document.TypeRef.TheVariants as type
 use Rattle.request_model.specs.declared.document.VarDef.{VarDef}
 use Rattle.request_model.specs.declared.flat.FlatField.{FlatField}
 use Rattle.request_model.specs.declared.flat.Flat.{Flat}
-use Rattle.request_model.specs.declared.flat.Word.TheVariants as word
+use Rattle.scalar_val.specs.declared.word.Word.TheVariants as word
 use Rattle.request_model.specs.Strings.{Text}
 use Rattle.request_model.specs.Canonical.{canonical}
 use Rattle.request_model.proofs.SelectionRules.{canonical_texts}
-use Rattle.query_model.specs.declared.fault.FaultKind.{FaultKind}
 use Rattle.query_model.specs.declared.fault.FaultKind.TheVariants as fault
 use Rattle.query_model.specs.declared.fault.QueryFault.{QueryFault}
 use Rattle.query_model.specs.declared.kind.SubKind.TheVariants as sub
 use Rattle.query_model.specs.Queries.{Query, selection_slots, text_variables}
-use Rattle.query_model.specs.Refusals.{refusal}
-use Rattle.query_model.specs.Admission.{Admitted, admitted}
+use Rattle.query_model.specs.Admission.{admitted}
 use Rattle.query_model.specs.Plans.{plan_of}
 use Rattle.query_model.specs.Results.{result}
 use Rattle.query_model.proofs.QueryRules.{queries}
-use Rattle.query_model.proofs.Samples.{metadata, table, column, user_table, post_table, posts_link, author_link, users, posts, admin, session, leaf, node, subscription, pair, one, order_by, int, text, post}
-
-abbrev refused_with : Result Admitted QueryFault → Option QueryFault
-refused_with (Ok a) = None
-refused_with (Err e) = Some e
-
-abbrev refuses : FaultKind → Text → Option QueryFault
-refuses k name = Some (refusal k name)
-
-abbrev id : List FlatField
-id = leaf (codes "id") ∷ []
+use Rattle.query_model.proofs.Samples.{metadata, table, column, user_table, post_table, posts_link, author_link, users, posts, admin, session, leaf, node, subscription, pair, one, order_by, int, text, post, refused_with, refuses, id}
 
 abbrev declares : Text → TypeRef → GValue → VarDef
 declares name t default = record { name = name; kind = t; default = Some default; directives = [] }

@@ -5,23 +5,25 @@ use Rattle.std.specs.Fmt.{digits}
 use Rattle.json.specs.Print.{escape_byte}
 use Rattle.scalar_val.specs.declared.val.Val.TheVariants as val
 use Rattle.data_model.specs.Rows.{Database}
-use Rattle.role_model.specs.declared.filter.Binding.{Binding}
-use Rattle.role_model.specs.declared.filter.Filter.TheVariants as filter
-use Rattle.role_model.specs.declared.filter.Items.TheVariants as items
-use Rattle.role_model.specs.declared.filter.Op.TheVariants as compare
-use Rattle.role_model.specs.declared.filter.Operand.TheVariants as operand
-use Rattle.role_model.specs.declared.filter.Slot.TheVariants.{One, Many}
-use Rattle.role_model.specs.declared.plan.Field.TheVariants as field
-use Rattle.role_model.specs.declared.plan.Field.TheViews.{roll-Select}
-use Rattle.role_model.specs.declared.plan.Plan.{Plan}
-use Rattle.role_model.specs.declared.plan.Shape.TheVariants as shape
+use Rattle.plan_model.specs.declared.filter.Binding.{Binding}
+use Rattle.plan_model.specs.declared.filter.Filter.TheVariants as filter
+use Rattle.plan_model.specs.declared.filter.Items.TheVariants as items
+use Rattle.plan_model.specs.declared.filter.Op.TheVariants as compare
+use Rattle.plan_model.specs.declared.filter.Operand.TheVariants as operand
+use Rattle.plan_model.specs.declared.filter.Slot.TheVariants.{One, Many}
+use Rattle.plan_model.specs.declared.plan.Field.TheVariants as field
+use Rattle.plan_model.specs.declared.plan.Field.TheViews.{roll-Select}
+use Rattle.plan_model.specs.declared.plan.Plan.{Plan}
+use Rattle.plan_model.specs.declared.plan.Shape.TheVariants as shape
 use Rattle.role_model.specs.Roles.{View}
-use Rattle.role_model.proofs.Truths.{truths}
+use Rattle.plan_model.proofs.Truths.{truths}
 use Rattle.request_model.specs.declared.document.GValue.TheVariants as v
 use Rattle.request_model.specs.declared.flat.Flat.{Flat}
 use Rattle.request_model.proofs.SelectionRules.{canonical_texts}
-use Rattle.query_model.specs.Plans.{plan_of, planned}
-use Rattle.query_model.proofs.QueryRules.{queries, plans}
+use Rattle.query_model.specs.Plans.{plan_of}
+use Rattle.plan_model.specs.Planned.{planned}
+use Rattle.query_model.proofs.QueryRules.{queries}
+use Rattle.plan_model.proofs.PlanRules.{plans}
 use Rattle.query_model.proofs.Samples.{posts, leaf, node, subscription, pair, one, order_by, int, post}
 
 abbrev as_reader : View

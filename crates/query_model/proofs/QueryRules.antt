@@ -2,20 +2,9 @@
 use Rattle.std.proofs.Common.{◌≡◌, ◌∙◌, ℕ, Bool, List, [], ◌∷◌, map, Option, ap, sym}
 use Rattle.std.specs.Prelude.{codes}
 use Rattle.data_model.specs.Rows.{Row}
-use Rattle.role_model.specs.declared.filter.Filter.{Filter}
-use Rattle.role_model.specs.declared.filter.Filter.TheVariants as filter
-use Rattle.role_model.specs.declared.filter.Filter.TheVariants.{rolls-And, rolls-Or, rolls-Not, rolls-Cmp, rolls-Among, rolls-IsNull}
-use Rattle.role_model.specs.declared.filter.Filter.TheOpen.{Filter-F}
-use Rattle.role_model.specs.declared.filter.Filter.TheFolds.{fold-Filter, fold-roll-Filter}
-use Rattle.role_model.specs.declared.filter.Op.{Op}
-use Rattle.role_model.specs.declared.filter.Operand.{Operand}
-use Rattle.role_model.specs.declared.plan.Field.{Field}
-use Rattle.role_model.specs.declared.plan.Field.TheVariants as field
-use Rattle.role_model.specs.declared.plan.Field.TheVariants.{rolls-Column, rolls-Typename, rolls-Link}
-use Rattle.role_model.specs.declared.plan.Field.TheOpen.{Field-F, Select-F}
-use Rattle.role_model.specs.declared.plan.Field.TheViews.{roll-Select, out-roll-Select}
-use Rattle.role_model.specs.declared.plan.Field.TheFolds.{fold-Field, fold-Select, map-Select, fold-roll-Field, fold-roll-Select}
-use Rattle.role_model.specs.declared.plan.Select.{Select}
+use Rattle.plan_model.specs.declared.filter.Filter.{Filter}
+use Rattle.plan_model.specs.declared.filter.Filter.TheVariants as filter
+use Rattle.plan_model.proofs.FilterRules.{filter-And, filter-Or, filter-Cmp}
 use Rattle.role_model.specs.Roles.{View}
 use Rattle.request_model.specs.declared.document.GValue.{GValue}
 use Rattle.request_model.specs.declared.document.GValue.TheVariants as v
@@ -33,7 +22,7 @@ use Rattle.request_model.specs.Selection.{concatenated}
 use Rattle.query_model.specs.declared.fault.QueryFault.{QueryFault}
 use Rattle.query_model.specs.Conditions.{Reader, Conditions, conditions_in, condition_at, conditions_step, key_filter}
 use Rattle.query_model.specs.Refusals.{refused, first_of}
-use Rattle.query_model.specs.Walk.{Judged, judged, judged_at, condition_step, key_fault, keys_fault}
+use Rattle.query_model.specs.ConditionFaults.{Judged, judged, judged_at, condition_step, key_fault, keys_fault}
 use Rattle.query_model.specs.declared.fault.FaultKind.TheVariants as fault
 use Rattle.query_model.specs.Variables.{Variable}
 use Rattle.query_model.specs.Queries.{value_names, value_names_step, pair_names_step}
@@ -51,21 +40,6 @@ module _ {B : Type 0} (key name : Text) (args : List GPair) (nested : Bool) (con
       step (record { key = key; name = name; args = args; nested = nested; conditions = conditions; fields = map (fold-FlatField (ℕ → Row → B) step) fields }) table row
   fold-at step table row = ap (λ (f : ℕ → Row → B). f table row) (fold-roll-FlatField (ℕ → Row → B) step _)
 
--- ---- folds of filters whose step gives a function
-
-module _ {B : Type 0} (step : Filter-F (ℕ → B) → ℕ → B) where
-  abbrev folded : Filter → ℕ → B
-  folded = fold-Filter (ℕ → B) step
-
-  pub filter-And : (parts : List Filter) (n : ℕ) → fold-Filter (ℕ → B) step (filter.And parts) n ≡ step (Filter-F.And (map (fold-Filter (ℕ → B) step) parts)) n
-  filter-And parts n = ap (λ (f : Filter). folded f n) (sym (rolls-And parts)) ∙ ap (λ (g : ℕ → B). g n) (fold-roll-Filter (ℕ → B) step _)
-
-  pub filter-Or : (parts : List Filter) (n : ℕ) → fold-Filter (ℕ → B) step (filter.Or parts) n ≡ step (Filter-F.Or (map (fold-Filter (ℕ → B) step) parts)) n
-  filter-Or parts n = ap (λ (f : Filter). folded f n) (sym (rolls-Or parts)) ∙ ap (λ (g : ℕ → B). g n) (fold-roll-Filter (ℕ → B) step _)
-
-  pub filter-Cmp : (column : ℕ) (op : Op) (operand : Operand) (n : ℕ) → fold-Filter (ℕ → B) step (filter.Cmp column op operand) n ≡ step (Filter-F.Cmp column op operand) n
-  filter-Cmp column op operand n = ap (λ (f : Filter). folded f n) (sym (rolls-Cmp column op operand)) ∙ ap (λ (g : ℕ → B). g n) (fold-roll-Filter (ℕ → B) step _)
-
 -- ---- conditions
 
 module _ (w : View) (r : Reader) where
@@ -75,6 +49,25 @@ module _ (w : View) (r : Reader) where
   object-one pairs table =
       ap (λ (x : GValue). (conditions_in w r x).one table) (sym (rolls-Object pairs))
       ∙ ap (λ (c : Conditions). c.one table) (para-roll-GValue Conditions (ℕ → Filter) (conditions_step w r) (key_filter w r) _)
+
+  -- as a list of conditions: one alone, and those of a list
+  pub object-many : (pairs : List GPair) (table : ℕ) →
+      (conditions_in w r (v.Object pairs)).many table ≡
+      filter.And (map (λ (p : GPair × (ℕ → Filter)). p.1 table) (map (λ p. (p, condition_at w r p)) pairs)) ∷ []
+  unfolding conditions_in condition_at
+  object-many pairs table =
+      ap (λ (x : GValue). (conditions_in w r x).many table) (sym (rolls-Object pairs))
+      ∙ ap (λ (c : Conditions). c.many table)
+      (para-roll-GValue Conditions (ℕ → Filter) (conditions_step w r) (key_filter w r) _)
+
+  pub items-many : (items : List GValue) (table : ℕ) →
+      (conditions_in w r (v.Many items)).many table ≡
+      map (λ (x : GValue × Conditions). x.1.one table) (map (λ x. (x, conditions_in w r x)) items)
+  unfolding conditions_in condition_at
+  items-many items table =
+      ap (λ (x : GValue). (conditions_in w r x).many table) (sym (rolls-Many items))
+      ∙ ap (λ (c : Conditions). c.many table)
+      (para-roll-GValue Conditions (ℕ → Filter) (conditions_step w r) (key_filter w r) _)
 
   pub key-is : (p : GPair) (table : ℕ) →
       condition_at w r p table ≡ key_filter w r (record { name = (out-GPair p).name; value = ((out-GPair p).value, conditions_in w r (out-GPair p).value) }) table
@@ -140,6 +133,16 @@ module _ (vars : List Variable) (w : View) where
       ap (λ (x : GValue). (judged vars w x).many blamed table) (sym (rolls-Many items))
       ∙ ap (λ (c : Judged). c.many blamed table) (para-roll-GValue Judged (ℕ → Option QueryFault) (condition_step vars w) (key_fault vars w) _)
 
+  -- one condition for a list of them
+  pub judged-object-many : (pairs : List GPair) (blamed : Text) (table : ℕ) →
+      (judged vars w (v.Object pairs)).many blamed table ≡
+      keys_fault vars w table [] (map (λ p. (p, judged_at vars w p)) pairs)
+  unfolding judged judged_at
+  judged-object-many pairs blamed table =
+      ap (λ (x : GValue). (judged vars w x).many blamed table) (sym (rolls-Object pairs))
+      ∙ ap (λ (c : Judged). c.many blamed table)
+      (para-roll-GValue Judged (ℕ → Option QueryFault) (condition_step vars w) (key_fault vars w) _)
+
   -- as a list of conditions
   pub judged-many-null : (blamed : Text) (table : ℕ) → (judged vars w v.Null).many blamed table ≡ refused fault.WrongType blamed
   unfolding judged
@@ -175,33 +178,4 @@ names-Object pairs = ap value_names (sym (rolls-Object pairs)) ∙ fold-roll-GVa
 pub names-pair : (p : GPair) → fold-GPair (List Text) (List Text) value_names_step pair_names_step p ≡ value_names (out-GPair p).value
 names-pair p = fold_out-GPair (List Text) (List Text) value_names_step pair_names_step p
 
--- ---- plans
-
-module _ {A : Type 0} (step : Field-F (ℕ → Row → A) ((Row → Bool) → A) → ℕ → Row → A) (select_step : Select-F (ℕ → Row → A) ((Row → Bool) → A) → (Row → Bool) → A) where
-  abbrev folded_field : Field → ℕ → Row → A
-  folded_field = fold-Field (ℕ → Row → A) ((Row → Bool) → A) step select_step
-
-  pub field-Column : (key : Text) (column table : ℕ) (row : Row) →
-      fold-Field (ℕ → Row → A) ((Row → Bool) → A) step select_step (field.Column key column) table row ≡ step (Field-F.Column key column) table row
-  field-Column key column table row =
-      ap (λ (f : Field). folded_field f table row) (sym (rolls-Column key column)) ∙ ap (λ (g : ℕ → Row → A). g table row) (fold-roll-Field (ℕ → Row → A) ((Row → Bool) → A) step select_step _)
-
-  pub field-Typename : (key : Text) (table : ℕ) (row : Row) →
-      fold-Field (ℕ → Row → A) ((Row → Bool) → A) step select_step (field.Typename key) table row ≡ step (Field-F.Typename key) table row
-  field-Typename key table row =
-      ap (λ (f : Field). folded_field f table row) (sym (rolls-Typename key)) ∙ ap (λ (g : ℕ → Row → A). g table row) (fold-roll-Field (ℕ → Row → A) ((Row → Bool) → A) step select_step _)
-
-  pub field-Link : (key : Text) (from to : List ℕ) (select : Select) (table : ℕ) (row : Row) →
-      fold-Field (ℕ → Row → A) ((Row → Bool) → A) step select_step (field.Link key from to select) table row ≡
-      step (Field-F.Link key from to (fold-Select (ℕ → Row → A) ((Row → Bool) → A) step select_step select)) table row
-  field-Link key from to select table row =
-      ap (λ (f : Field). folded_field f table row) (sym (rolls-Link key from to select)) ∙ ap (λ (g : ℕ → Row → A). g table row) (fold-roll-Field (ℕ → Row → A) ((Row → Bool) → A) step select_step _)
-
-  pub select-rolled : (s : Select-F Field Select) (allowed : Row → Bool) →
-      fold-Select (ℕ → Row → A) ((Row → Bool) → A) step select_step (roll-Select s) allowed ≡
-      select_step (map-Select Field Select (ℕ → Row → A) ((Row → Bool) → A) (fold-Field (ℕ → Row → A) ((Row → Bool) → A) step select_step) (fold-Select (ℕ → Row → A) ((Row → Bool) → A) step select_step) s) allowed
-  select-rolled s allowed = ap (λ (g : (Row → Bool) → A). g allowed) (fold-roll-Select (ℕ → Row → A) ((Row → Bool) → A) step select_step s)
-
-pub ruleset plans = (field-Column, field-Typename, field-Link, select-rolled, out-roll-Select)
-
-pub ruleset queries = (outs-Named, outs-Listed, fold-in, fold-at, out-roll-FlatField, filter-And, filter-Or, filter-Cmp, object-one, key-is, judged-object, judged-key, judged-Var, judged-Int, judged-Many, judged-several, judged-many-null, names-Var, names-Int, names-Null, names-Enum, names-Many, names-Object, names-pair)
+pub ruleset queries = (outs-Named, outs-Listed, fold-in, fold-at, out-roll-FlatField, filter-And, filter-Or, filter-Cmp, object-one, object-many, items-many, key-is, judged-object, judged-key, judged-Var, judged-Int, judged-Many, judged-several, judged-object-many, judged-many-null, names-Var, names-Int, names-Null, names-Enum, names-Many, names-Object, names-pair)

@@ -8,13 +8,13 @@ use Rattle.scalar_val.specs.declared.val.Kind.TheVariants as kind
 use Rattle.scalar_val.specs.declared.val.Val.{Val}
 use Rattle.scalar_val.specs.declared.val.Val.TheVariants as val
 use Rattle.data_model.specs.Rows.{Database}
-use Rattle.role_model.specs.declared.filter.Filter.{Filter}
-use Rattle.role_model.specs.declared.filter.Filter.TheVariants as filter
-use Rattle.role_model.specs.declared.filter.Op.TheVariants as compare
-use Rattle.role_model.specs.declared.filter.Operand.TheVariants as operand
-use Rattle.role_model.specs.declared.filter.Slot.TheVariants.{One}
+use Rattle.plan_model.specs.declared.filter.Filter.{Filter}
+use Rattle.plan_model.specs.declared.filter.Filter.TheVariants as filter
+use Rattle.plan_model.specs.declared.filter.Op.TheVariants as compare
+use Rattle.plan_model.specs.declared.filter.Operand.TheVariants as operand
+use Rattle.plan_model.specs.declared.filter.Slot.TheVariants.{One}
 use Rattle.role_model.specs.declared.metadata.Metadata.{Metadata}
-use Rattle.role_model.proofs.Truths.{truths}
+use Rattle.plan_model.proofs.Truths.{truths}
 use Rattle.request_model.specs.declared.document.GValue.TheVariants as v
 use Rattle.request_model.specs.declared.document.TypeRef.TheVariants as type
 use Rattle.request_model.specs.declared.flat.FlatField.TheViews.{out-roll-FlatField}
@@ -26,7 +26,7 @@ use Rattle.query_model.specs.declared.kind.SubKind.TheVariants as sub
 use Rattle.query_model.specs.Conditions.{conditions_in}
 use Rattle.query_model.specs.Queries.{Query, binding_of}
 use Rattle.query_model.specs.Admission.{admitted}
-use Rattle.query_model.specs.Taken.{Outcome}
+use Rattle.plan_model.specs.Outcomes.{Outcome}
 use Rattle.query_model.specs.Results.{result, view, values}
 use Rattle.query_model.proofs.QueryRules.{queries, not-one, fold-in, fold-at}
 use Rattle.query_model.proofs.Samples.{metadata, table, column, users, posts, admin, reader_with, leaf, node, subscription, pair, one, order_by, int, text, post}

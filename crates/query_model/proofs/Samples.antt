@@ -1,5 +1,5 @@
--- Metadata and selections of the worked rows.
-use Rattle.std.proofs.Common.{ℕ, Bool, List, [], ◌∷◌, None, true, false, pos}
+-- Metadata, selections and answers of the worked rows.
+use Rattle.std.proofs.Common.{ℕ, Bool, List, [], ◌∷◌, Option, Some, None, Result, Ok, Err, true, false, pos}
 use Rattle.std.specs.Prelude.{codes}
 use Rattle.scalar_val.specs.declared.val.Kind.{Kind}
 use Rattle.scalar_val.specs.declared.val.Kind.TheVariants as kind
@@ -8,9 +8,9 @@ use Rattle.scalar_val.specs.declared.val.Val.TheVariants as val
 use Rattle.data_model.specs.declared.catalog.Column.{Column}
 use Rattle.data_model.specs.declared.catalog.TableDef.{TableDef}
 use Rattle.data_model.specs.Rows.{Row}
-use Rattle.role_model.specs.declared.filter.Filter.TheVariants as filter
-use Rattle.role_model.specs.declared.filter.Op.TheVariants as compare
-use Rattle.role_model.specs.declared.filter.Operand.TheVariants as operand
+use Rattle.plan_model.specs.declared.filter.Filter.TheVariants as filter
+use Rattle.plan_model.specs.declared.filter.Op.TheVariants as compare
+use Rattle.plan_model.specs.declared.filter.Operand.TheVariants as operand
 use Rattle.role_model.specs.declared.metadata.LinkDef.{LinkDef}
 use Rattle.role_model.specs.declared.metadata.Metadata.{Metadata}
 use Rattle.role_model.specs.declared.metadata.RoleDef.{RoleDef}
@@ -23,8 +23,12 @@ use Rattle.request_model.specs.declared.document.VarDef.{VarDef}
 use Rattle.request_model.specs.declared.flat.FlatField.{FlatField}
 use Rattle.request_model.specs.declared.flat.FlatField.TheViews.{roll-FlatField}
 use Rattle.request_model.specs.declared.flat.Flat.{Flat}
-use Rattle.request_model.specs.declared.flat.Word.TheVariants as word
+use Rattle.scalar_val.specs.declared.word.Word.TheVariants as word
 use Rattle.request_model.specs.Strings.{Text}
+use Rattle.query_model.specs.declared.fault.FaultKind.{FaultKind}
+use Rattle.query_model.specs.declared.fault.QueryFault.{QueryFault}
+use Rattle.query_model.specs.Refusals.{refusal}
+use Rattle.query_model.specs.Admission.{Admitted}
 
 -- ---- metadata
 
@@ -108,3 +112,15 @@ text t = val.Text t
 
 abbrev pub post : ℕ → Val → Text → Row
 post id author title = int id ∷ author ∷ text title ∷ val.Null ∷ []
+
+-- ---- answers
+
+abbrev pub id : List FlatField
+id = leaf (codes "id") ∷ []
+
+abbrev pub refused_with : Result Admitted QueryFault → Option QueryFault
+refused_with (Ok a) = None
+refused_with (Err e) = Some e
+
+abbrev pub refuses : FaultKind → Text → Option QueryFault
+refuses k name = Some (refusal k name)

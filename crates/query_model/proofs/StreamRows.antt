@@ -5,13 +5,13 @@ use Rattle.scalar_val.specs.declared.val.Val.TheVariants as val
 use Rattle.data_model.specs.declared.transaction.TxChange.{TxChange}
 use Rattle.data_model.specs.declared.transaction.TxChange.TheVariants.{Insert, Update}
 use Rattle.data_model.specs.Rows.{Rows}
-use Rattle.role_model.proofs.Truths.{truths}
+use Rattle.plan_model.proofs.Truths.{truths}
 use Rattle.request_model.specs.declared.document.GValue.TheVariants as v
 use Rattle.request_model.specs.declared.flat.Flat.{Flat}
 use Rattle.request_model.proofs.SelectionRules.{canonical_texts}
 use Rattle.query_model.specs.declared.kind.SubKind.TheVariants as sub
 use Rattle.query_model.specs.Queries.{Query}
-use Rattle.query_model.specs.Laws.{Stream, stream_of, streamed, passed, cursor_at_end, transactions_append, is_unique}
+use Rattle.query_model.specs.StreamLaws.{Stream, stream_of, streamed, passed, cursor_at_end, transactions_append, is_unique}
 use Rattle.query_model.proofs.QueryRules.{queries}
 use Rattle.query_model.proofs.Samples.{users, user_table, leaf, node, subscription, pair, one, int}
 

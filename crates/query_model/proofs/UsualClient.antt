@@ -8,9 +8,9 @@ use Rattle.scalar_val.specs.declared.val.Kind.{Kind}
 use Rattle.scalar_val.specs.declared.val.Kind.TheVariants as kind
 use Rattle.scalar_val.specs.declared.val.Val.TheVariants as val
 use Rattle.data_model.specs.Rows.{Database, Rows}
-use Rattle.role_model.specs.declared.filter.Slot.{Slot}
-use Rattle.role_model.specs.declared.filter.Slot.TheVariants.{One}
-use Rattle.role_model.proofs.Truths.{truths}
+use Rattle.plan_model.specs.declared.filter.Slot.{Slot}
+use Rattle.plan_model.specs.declared.filter.Slot.TheVariants.{One}
+use Rattle.plan_model.proofs.Truths.{truths}
 use Rattle.request_model.specs.declared.document.GValue.TheVariants as v
 use Rattle.request_model.specs.declared.document.VarDef.{VarDef}
 use Rattle.request_model.specs.declared.document.TypeRef.TheVariants as type
@@ -21,7 +21,7 @@ use Rattle.request_model.specs.declared.document.Definition.TheVariants as d
 use Rattle.request_model.specs.declared.document.Document.{Document}
 use Rattle.request_model.specs.declared.flat.FlatField.TheViews.{roll-FlatField}
 use Rattle.request_model.specs.declared.flat.Flat.{Flat}
-use Rattle.request_model.specs.declared.flat.Word.TheVariants as word
+use Rattle.scalar_val.specs.declared.word.Word.TheVariants as word
 use Rattle.request_model.specs.Strings.{Text}
 use Rattle.request_model.specs.Selection.{Operation, flat_of}
 use Rattle.request_model.specs.Canonical.{canonical}

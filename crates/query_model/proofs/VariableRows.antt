@@ -5,8 +5,8 @@ use Rattle.serde_json.specs.Data.{Data, Num, unsigned, Items, no_items, item, Me
 use Rattle.serde_json.specs.Data as json
 use Rattle.scalar_val.specs.declared.val.Val.{Val}
 use Rattle.scalar_val.specs.declared.val.Val.TheVariants as val
-use Rattle.role_model.specs.declared.filter.Slot.{Slot}
-use Rattle.role_model.specs.declared.filter.Slot.TheVariants.{One, Many}
+use Rattle.plan_model.specs.declared.filter.Slot.{Slot}
+use Rattle.plan_model.specs.declared.filter.Slot.TheVariants.{One, Many}
 use Rattle.request_model.specs.declared.document.GValue.{GValue}
 use Rattle.request_model.specs.declared.document.GValue.TheVariants as v
 use Rattle.request_model.specs.declared.document.TypeRef.{TypeRef}

@@ -5,12 +5,12 @@ use Rattle.std.specs.List.{filter_map}
 use Rattle.std.specs.Str.{bytes_eq}
 use Rattle.scalar_val.specs.declared.val.Kind.{Kind}
 use Rattle.scalar_val.specs.declared.val.Kind.TheVariants as kind
-use Rattle.role_model.specs.declared.filter.Filter.{Filter}
-use Rattle.role_model.specs.declared.filter.Filter.TheVariants as filter
-use Rattle.role_model.specs.declared.filter.Items.{Items}
-use Rattle.role_model.specs.declared.filter.Op.{Op}
-use Rattle.role_model.specs.declared.filter.Operand.{Operand}
-use Rattle.role_model.specs.declared.plan.Order.{Order}
+use Rattle.plan_model.specs.declared.filter.Filter.{Filter}
+use Rattle.plan_model.specs.declared.filter.Filter.TheVariants as filter
+use Rattle.plan_model.specs.declared.filter.Items.{Items}
+use Rattle.plan_model.specs.declared.filter.Op.{Op}
+use Rattle.plan_model.specs.declared.filter.Operand.{Operand}
+use Rattle.plan_model.specs.declared.plan.Order.{Order}
 use Rattle.role_model.specs.JsonFilters.{op_named}
 use Rattle.role_model.specs.Roles.{View, column_seen}
 use Rattle.request_model.specs.declared.document.GValue.{GValue}
@@ -64,8 +64,12 @@ module _ (v : View) (r : Reader) where
 
   -- an object is its keys' conditions joined by and
   abbrev pub conditions_step : GValue-F (GValue × Conditions) (GPair × (ℕ → Filter)) → Conditions
-  conditions_step (GValue-F.Object pairs) = alone (λ table. filter.And (map (λ (p : GPair × (ℕ → Filter)). p.1 table) pairs))
-  conditions_step (GValue-F.Many items) = record { one = λ table. always; many = λ table. map (λ (x : GValue × Conditions). x.1.one table) items }
+  conditions_step (GValue-F.Object pairs) =
+      alone (λ table. filter.And (map (λ (p : GPair × (ℕ → Filter)). p.1 table) pairs))
+  conditions_step (GValue-F.Many items) = record {
+    one = λ table. always;
+    many = λ table. map (λ (x : GValue × Conditions). x.1.one table) items;
+  }
   conditions_step _ = alone (λ table. always)
 
   unfoldable pub conditions_in : GValue → Conditions
@@ -98,7 +102,10 @@ order_entry column o = record { column = column; descending = o.0; nulls_first =
 
 module _ (v : View) (table : ℕ) where
   abbrev pub order_in : GPair → Option Order
-  order_in p = option_and_then (λ column. option_map (order_entry column) (option_and_then order_named (enum_in (pair_value p)))) (column_seen v table (pair_name p))
+  order_in p =
+      option_and_then
+      (λ column. option_map (order_entry column) (option_and_then order_named (enum_in (pair_value p))))
+      (column_seen v table (pair_name p))
 
   -- the entries in written order, of one object or of a list of them
   abbrev pub orders_in : Option GValue → List Order

@@ -11,13 +11,13 @@ use Rattle.data_model.specs.declared.catalog.Column.{Column}
 use Rattle.data_model.specs.declared.catalog.TableDef.{TableDef}
 use Rattle.role_model.specs.declared.metadata.LinkDef.{LinkDef}
 use Rattle.role_model.specs.Roles.{View, only_if, table_at, sees_table, table_seen, column_seen, link_seen, key_seen}
-use Rattle.role_model.specs.Truth.{is_null}
+use Rattle.scalar_val.specs.Values.{is_null}
 use Rattle.request_model.specs.declared.document.GValue.{GValue}
 use Rattle.request_model.specs.declared.document.GValue.TheOpen.{GValue-F}
 use Rattle.request_model.specs.declared.document.GValue.TheViews.{out-GValue, out-GPair}
 use Rattle.request_model.specs.declared.document.GPair.{GPair}
-use Rattle.request_model.specs.declared.flat.Word.{Word}
-use Rattle.request_model.specs.declared.flat.Word.TheVariants as word
+use Rattle.scalar_val.specs.declared.word.Word.{Word}
+use Rattle.scalar_val.specs.declared.word.Word.TheVariants as word
 use Rattle.request_model.specs.Strings.{Text}
 
 -- ---- tables
@@ -78,7 +78,9 @@ column_or (Some column) other = AColumn column
 column_or None other = other
 
 abbrev pub meant : View → ℕ → Text → Meant
-meant v table name = if bytes_eq name (codes "__typename") then Typename else column_or (column_seen v table name) (link_or_none (link_seen v table name))
+meant v table name =
+    if bytes_eq name (codes "__typename") then Typename
+    else column_or (column_seen v table name) (link_or_none (link_seen v table name))
 
 -- ---- the fields of the root
 
@@ -91,10 +93,12 @@ pub data Root : Type 0 where
 
 abbrev pub table_called : View → Text → Text → Option ℕ
 table_called v suffix name =
-    option_and_then (λ table. only_if (sees_table v table) (Some table)) (position (λ (t : TableDef). bytes_eq name (t.name ++ suffix)) v.metadata.catalog.tables)
+    option_and_then (λ table. only_if (sees_table v table) (Some table))
+    (position (λ (t : TableDef). bytes_eq name (t.name ++ suffix)) v.metadata.catalog.tables)
 
 abbrev pub table_by_key : View → Text → Option ℕ
-table_by_key v name = option_and_then (λ table. only_if (key_seen v table) (Some table)) (table_called v (codes "_by_pk") name)
+table_by_key v name =
+    option_and_then (λ table. only_if (key_seen v table) (Some table)) (table_called v (codes "_by_pk") name)
 
 abbrev pub table_streamed : View → Word → Text → Option ℕ
 table_streamed v word.Subscription name = table_called v (codes "_stream") name
@@ -107,7 +111,8 @@ root_or made None other = other
 -- `T`, `T_by_pk` where the role sees the whole key, and for subscriptions `T_stream`, for each table T that it sees
 abbrev pub root_meant : View → Word → Text → Root
 root_meant v w name =
-    root_or RowsOf (table_seen v name) (root_or RowOf (table_by_key v name) (root_or StreamOf (table_streamed v w name) NoRoot))
+    root_or RowsOf (table_seen v name)
+    (root_or RowOf (table_by_key v name) (root_or StreamOf (table_streamed v w name) NoRoot))
 
 abbrev pub root_type : Word → Text
 root_type word.Query = codes "query_root"

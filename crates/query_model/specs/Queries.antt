@@ -5,30 +5,30 @@ use Rattle.std.specs.Ordering.{nat_cmp, on, then_cmp}
 use Rattle.std.specs.Cmp.Lexicographic.{slice_cmp}
 use Rattle.std.specs.declared.cmp.Ordering.{Ordering}
 use Rattle.scalar_val.specs.declared.val.Kind.{Kind}
-use Rattle.scalar_val.specs.declared.val.Kind.TheVariants as kind
+use Rattle.scalar_val.specs.Values.{kind_rank}
 use Rattle.scalar_val.specs.declared.val.Val.{Val}
-use Rattle.role_model.specs.declared.filter.Binding.{Binding}
-use Rattle.role_model.specs.declared.filter.Filter.{Filter}
-use Rattle.role_model.specs.declared.filter.Filter.TheOpen.{Filter-F}
-use Rattle.role_model.specs.declared.filter.Filter.TheFolds.{fold-Filter}
-use Rattle.role_model.specs.declared.filter.Items.{Items}
-use Rattle.role_model.specs.declared.filter.Items.TheVariants as items
-use Rattle.role_model.specs.declared.filter.Operand.{Operand}
-use Rattle.role_model.specs.declared.filter.Operand.TheVariants.{Const, Var, Sess}
+use Rattle.plan_model.specs.declared.filter.Binding.{Binding}
+use Rattle.plan_model.specs.declared.filter.Filter.{Filter}
+use Rattle.plan_model.specs.declared.filter.Filter.TheOpen.{Filter-F}
+use Rattle.plan_model.specs.declared.filter.Filter.TheFolds.{fold-Filter}
+use Rattle.plan_model.specs.declared.filter.Items.{Items}
+use Rattle.plan_model.specs.declared.filter.Items.TheVariants as items
+use Rattle.plan_model.specs.declared.filter.Operand.{Operand}
+use Rattle.plan_model.specs.declared.filter.Operand.TheVariants.{Const, Var, Sess}
 use Rattle.role_model.specs.declared.metadata.Metadata.{Metadata}
 use Rattle.role_model.specs.Roles.{View, filter_seen, session_name_seen}
 use Rattle.request_model.specs.declared.document.GValue.{GValue}
 use Rattle.request_model.specs.declared.document.GValue.TheOpen.{GValue-F, GPair-F}
 use Rattle.request_model.specs.declared.document.GValue.TheFolds.{fold-GValue}
-use Rattle.request_model.specs.declared.flat.Word.{Word}
-use Rattle.request_model.specs.declared.flat.Word.TheVariants as word
+use Rattle.scalar_val.specs.declared.word.Word.{Word}
+use Rattle.scalar_val.specs.declared.word.Word.TheVariants as word
 use Rattle.request_model.specs.declared.flat.FlatField.{FlatField}
 use Rattle.request_model.specs.declared.flat.FlatField.TheOpen.{FlatField-F}
 use Rattle.request_model.specs.declared.flat.FlatField.TheViews.{out-FlatField}
 use Rattle.request_model.specs.declared.flat.FlatField.TheFolds.{fold-FlatField}
 use Rattle.request_model.specs.declared.flat.Flat.{Flat}
 use Rattle.request_model.specs.Strings.{Text}
-use Rattle.request_model.specs.Ordered.{distinct_in_order}
+use Rattle.scalar_val.specs.Ordered.{distinct_in_order}
 use Rattle.request_model.specs.Selection.{concatenated}
 use Rattle.request_model.specs.Canonical.{canonical}
 use Rattle.request_model.specs.SelectionLaws.{bare_argument}
@@ -47,16 +47,11 @@ pub record SessionValue : Type 0 where
   pub slot : SessionSlot
   pub value : Val
 
-abbrev pub kind_rank : Kind → ℕ
-kind_rank kind.Bool = 0
-kind_rank kind.Int = 1
-kind_rank kind.Big = 2
-kind_rank kind.Text = 3
-kind_rank kind.Uuid = 4
-
 -- by name in bytes, and then by kind
 abbrev pub slot_cmp : SessionSlot → SessionSlot → Ordering
-slot_cmp = then_cmp (on (λ (s : SessionSlot). s.name) (slice_cmp nat_cmp)) (on (λ (s : SessionSlot). kind_rank s.kind) nat_cmp)
+slot_cmp =
+    then_cmp (on (λ (s : SessionSlot). s.name) (slice_cmp nat_cmp))
+    (on (λ (s : SessionSlot). kind_rank s.kind) nat_cmp)
 
 abbrev pub session_name : View → ℕ → Text
 session_name v slot = unwrap_or (session_name_seen v slot) []
@@ -116,7 +111,9 @@ module _ (v : View) where
 
   -- the distinct slots that the role's filters name on the tables of a selection, in order
   abbrev pub selection_slots : Flat → List SessionSlot
-  selection_slots s = distinct_in_order slot_cmp (flat_map table_slots (flat_map (λ f. root_tables (root_of s.kind f) (out-FlatField f).fields) s.fields))
+  selection_slots s =
+      let tables = flat_map (λ f. root_tables (root_of s.kind f) (out-FlatField f).fields) s.fields in
+      distinct_in_order slot_cmp (flat_map table_slots tables)
 
 -- ---- queries
 
@@ -157,11 +154,16 @@ field_names_step f = flat_map (λ p. value_names (pair_value (bare_argument p)))
 
 -- the variables that stand in the canonical text, in order of name; a cursor's initial value doesn't stand there
 abbrev pub text_variables : Flat → List Text
-text_variables s = distinct_in_order (slice_cmp nat_cmp) (flat_map (fold-FlatField (List Text) field_names_step) s.fields)
+text_variables s =
+    distinct_in_order (slice_cmp nat_cmp) (flat_map (fold-FlatField (List Text) field_names_step) s.fields)
 
 -- the values of those variables, then those of the session slots, and for a stream the cursor, which else is null
 abbrev pub binding_of : Query → Val → Binding
-binding_of q cursor = record { vars = map (variable_slot q.variables) (text_variables q.selection); session = map (λ (s : SessionValue). s.value) q.session; cursor = cursor }
+binding_of q cursor = record {
+  vars = map (variable_slot q.variables) (text_variables q.selection);
+  session = map (λ (s : SessionValue). s.value) q.session;
+  cursor = cursor;
+}
 
 -- ---- pollers and cohorts
 

@@ -1,5 +1,5 @@
 -- Refusals, the first of several, and their codes and texts. This project's own.
-use Rattle.std.specs.Prelude.{ℕ, pos, Bool, if◌then◌else◌, List, [], ◌∷◌, ◌++◌, Option, Some, None, codes}
+use Rattle.std.specs.Prelude.{ℕ, pos, Bool, if◌then◌else◌, List, [], ◌∷◌, ◌++◌, map, Option, Some, None, codes}
 use Rattle.std.specs.List.{list_any}
 use Rattle.std.specs.Str.{bytes_eq}
 use Rattle.std.specs.Fmt.{signed_decimal}
@@ -31,11 +31,17 @@ abbrev pub first_of : List (Option QueryFault) → Option QueryFault
 first_of [] = None
 first_of (x ∷ xs) = or_then x (first_of xs)
 
--- the names of pairs are known and differ, else `strange` names the fault; `judge` judges the value of each
+-- Of names with what is wrong with each, the first fault, where a name that stands twice is at fault itself: `strange`
+-- names that fault, and `before` are the names that came before.
+abbrev pub distinct_fault : (Text → QueryFault) → List Text → List (Text × Option QueryFault) → Option QueryFault
+distinct_fault strange before [] = None
+distinct_fault strange before (x ∷ xs) =
+    or_then (if list_any (bytes_eq x.0) before then Some (strange x.0) else x.1)
+    (distinct_fault strange (x.0 ∷ before) xs)
+
+-- the same of pairs, whose values are judged
 abbrev pub pairs_fault : (Text → QueryFault) → (GPair → Option QueryFault) → List Text → List GPair → Option QueryFault
-pairs_fault strange judge before [] = None
-pairs_fault strange judge before (p ∷ ps) =
-    or_then (if list_any (bytes_eq (pair_name p)) before then Some (strange (pair_name p)) else judge p) (pairs_fault strange judge (pair_name p ∷ before) ps)
+pairs_fault strange judge before ps = distinct_fault strange before (map (λ p. (pair_name p, judge p)) ps)
 
 -- ---- the text and the code of a refusal
 

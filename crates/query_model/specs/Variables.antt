@@ -9,10 +9,12 @@ use Rattle.scalar_val.specs.declared.val.Kind.TheVariants as kind
 use Rattle.scalar_val.specs.declared.val.Val.{Val}
 use Rattle.scalar_val.specs.declared.val.Val.TheVariants as val
 use Rattle.scalar_val.specs.Spellings.{fitted}
-use Rattle.data_model.specs.Form.{scalar_of}
-use Rattle.role_model.specs.declared.filter.Slot.{Slot}
-use Rattle.role_model.specs.declared.filter.Slot.TheVariants.{One, Many}
-use Rattle.role_model.specs.Truth.{is_null, one_value, many_values}
+use Rattle.data_model.specs.JsonParts.{scalar_or_null}
+use Rattle.plan_model.specs.declared.filter.Slot.{Slot}
+use Rattle.plan_model.specs.declared.filter.Slot.TheVariants.{One, Many}
+use Rattle.scalar_val.specs.Values.{is_null}
+use Rattle.plan_model.specs.Values.{one_value, many_values}
+use Rattle.plan_model.specs.Values.{number_in}
 use Rattle.request_model.specs.declared.document.GValue.{GValue}
 use Rattle.request_model.specs.declared.document.GValue.TheOpen.{GValue-F}
 use Rattle.request_model.specs.declared.document.GValue.TheViews.{out-GValue}
@@ -45,18 +47,21 @@ kind_named name =
     else None
 
 abbrev pub single_type : Text → Bool → Option VarType
-single_type name strict = option_map (λ k. record { kind = k; listed = false; strict = strict; strict_item = false }) (kind_named name)
+single_type name strict =
+    option_map (λ k. record { kind = k; listed = false; strict = strict; strict_item = false }) (kind_named name)
 
-abbrev pub list_type : Bool → VarType → Option VarType
-list_type strict t = if t.listed then None else Some (record { kind = t.kind; listed = true; strict = strict; strict_item = t.strict })
+-- the list of a kind's type
+abbrev pub list_type : Bool → VarType → VarType
+list_type strict t = record { kind = t.kind; listed = true; strict = strict; strict_item = t.strict }
 
+-- a list of lists isn't served
 abbrev pub item_type_by : TypeRef-F TypeRef → Option VarType
 item_type_by (TypeRef-F.Named name strict) = single_type name strict
 item_type_by (TypeRef-F.Listed inner strict) = None
 
 abbrev pub type_by : TypeRef-F TypeRef → Option VarType
 type_by (TypeRef-F.Named name strict) = single_type name strict
-type_by (TypeRef-F.Listed inner strict) = option_and_then (list_type strict) (item_type_by (out-TypeRef inner))
+type_by (TypeRef-F.Listed inner strict) = option_map (list_type strict) (item_type_by (out-TypeRef inner))
 
 abbrev pub type_of : TypeRef → Option VarType
 type_of x = type_by (out-TypeRef x)
@@ -69,11 +74,11 @@ pub data Input : Type 0 where
 
 abbrev pub json_items : Items → List (Option Val)
 json_items no_items = []
-json_items (item d ds) = scalar_of d ∷ json_items ds
+json_items (item d ds) = scalar_or_null d ∷ json_items ds
 
 abbrev pub json_input : Data → Input
 json_input (array ds) = Several (json_items ds)
-json_input d = Single (scalar_of d)
+json_input d = Single (scalar_or_null d)
 
 abbrev pub literal_input_by : Input → GValue-F GValue GPair → Input
 literal_input_by other (GValue-F.Many items) = Several (map literal items)
@@ -99,14 +104,16 @@ as_list false x = One x
 -- one value stands for a list of one, but null for a null list
 abbrev pub single_value : VarType → Option Val → Result Slot FaultKind
 single_value t None = Err fault.WrongType
-single_value t (Some x) = if is_null x then null_unless t.strict else or_wrong (option_map (as_list t.listed) (fitted t.kind x))
+single_value t (Some x) =
+    if is_null x then null_unless t.strict else or_wrong (option_map (as_list t.listed) (fitted t.kind x))
 
 abbrev pub item_value : VarType → Val → Option Val
 item_value t x = if is_null x && t.strict_item then None else null_or_fitted t.kind x
 
 abbrev pub item_values : VarType → List (Option Val) → Option (List Val)
 item_values t [] = Some []
-item_values t (x ∷ xs) = option_and_then (λ y. option_map (λ ys. y ∷ ys) (item_values t xs)) (option_and_then (item_value t) x)
+item_values t (x ∷ xs) =
+    option_and_then (λ y. option_map (λ ys. y ∷ ys) (item_values t xs)) (option_and_then (item_value t) x)
 
 abbrev pub input_value : VarType → Input → Result Slot FaultKind
 input_value t (Single x) = single_value t x
@@ -149,10 +156,6 @@ slot_in None = One val.Null
 
 abbrev pub variable_slot : List Variable → Text → Slot
 variable_slot vs name = slot_in (variable_named vs name)
-
-abbrev pub number_in : Val → Option ℕ
-number_in (val.Int (pos n)) = Some n
-number_in _ = None
 
 module _ (vs : List Variable) where
   abbrev pub value_by : Val → Option Text → Val

@@ -3,7 +3,7 @@ use Rattle.std.proofs.Common.{◌≡◌, inl, inr, List, [], ◌∷◌, Option, 
 use Rattle.std.specs.List.{AllByRecursion}
 use Rattle.serde_json.specs.Data.{Members}
 use Rattle.request_model.specs.declared.document.Document.{Document}
-use Rattle.request_model.specs.declared.flat.Word.{Word}
+use Rattle.scalar_val.specs.declared.word.Word.{Word}
 use Rattle.request_model.specs.declared.flat.Flat.{Flat}
 use Rattle.request_model.specs.declared.flat.FlatFault.{FlatFault}
 use Rattle.request_model.specs.Strings.{Text}

@@ -2,6 +2,8 @@ pub mod FaultRules
 pub mod FirstFault
 pub mod SelectionRules
 mod SelectionRows
+mod CollectionRows
+mod LimitRows
 pub mod ReadNames
 pub mod ReadLists
 pub mod ReadAtoms

@@ -11,7 +11,8 @@ use Rattle.request_model.specs.declared.document.GValue.TheOpen.{GValue-F}
 use Rattle.request_model.specs.declared.document.GValue.TheViews.{out-GValue, roll-GValue, roll-out-GValue, out-roll-GValue, out-GPair, roll-GPair, roll-out-GPair, out-roll-GPair}
 use Rattle.request_model.specs.declared.document.GValue.TheFolds.{fold-roll-GValue, map-GValue, ind-GValue}
 use Rattle.request_model.specs.Strings.{Text}
-use Rattle.request_model.specs.Canonical.{in_braces, named_text, value_step, pair_step, value_text, pair_text, initial_text, cursor_pair, cursor_object, cursor_text_by, cursor_text, argument_text}
+use Rattle.scalar_val.specs.Joined.{in_braces, named_text}
+use Rattle.request_model.specs.Canonical.{value_step, pair_step, value_text, pair_text, initial_text, cursor_pair, cursor_object, cursor_text_by, cursor_text, argument_text}
 use Rattle.request_model.specs.SelectionLaws.{is_written_pair, renamed, bare_initial, bare_pair, bare_object, bare_cursor_by, bare_cursor, bare_argument}
 use Rattle.request_model.proofs.SelectionRules.{pair_text-is}
 use Rattle.request_model.proofs.ReadNames.{tails}

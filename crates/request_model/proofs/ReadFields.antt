@@ -8,16 +8,17 @@ use Rattle.std.specs.List.{list_all, AllByRecursion}
 use Rattle.std.specs.Ordering.{is_le}
 use Rattle.std.specs.declared.cmp.Ordering.{Ordering}
 use Rattle.request_model.specs.declared.document.GPair.{GPair}
-use Rattle.request_model.specs.declared.flat.Word.{Word}
-use Rattle.request_model.specs.declared.flat.Word.TheVariants as word
+use Rattle.scalar_val.specs.declared.word.Word.{Word}
+use Rattle.scalar_val.specs.declared.word.Word.TheVariants as word
 use Rattle.request_model.specs.declared.flat.FlatField.{FlatField}
 use Rattle.request_model.specs.declared.flat.FlatField.TheOpen.{FlatField-F}
 use Rattle.request_model.specs.declared.flat.FlatField.TheViews.{out-FlatField, roll-FlatField, roll-out-FlatField}
 use Rattle.request_model.specs.declared.flat.FlatField.TheFolds.{fold-FlatField, fold-roll-FlatField, ind-FlatField}
 use Rattle.request_model.specs.Strings.{Text}
-use Rattle.request_model.specs.Ordered.{placed, ordered}
+use Rattle.scalar_val.specs.Ordered.{placed, ordered}
 use Rattle.request_model.specs.Selection.{by_name}
-use Rattle.request_model.specs.Canonical.{parted, named_text, argument_text, in_parentheses, set_text, field_step, field_text, word_text}
+use Rattle.scalar_val.specs.Joined.{parted, named_text}
+use Rattle.request_model.specs.Canonical.{argument_text, in_parentheses, set_text, field_step, field_text, word_text}
 use Rattle.request_model.specs.SelectionLaws.{is_name, is_written_pair, itself, is_empty, written_field_step, bare_argument, bare_step, bare_field, CanonicalTells}
 use Rattle.request_model.proofs.ReadNames.{tails, not_empty, is_close, closes, stops, closes_stops, read_part}
 use Rattle.request_model.proofs.ReadLists.{Told, opens, read_parted}

@@ -4,7 +4,7 @@ use Rattle.std.proofs.lemmas.Bool.{false≢true, and_parts, not-true, eq-eqb}
 use Rattle.std.specs.Prelude.{IsTrue, flat_map}
 use Rattle.std.specs.List.{list_all, AllByRecursion}
 use Rattle.request_model.specs.Strings.{Text}
-use Rattle.request_model.specs.Canonical.{parted}
+use Rattle.scalar_val.specs.Joined.{parted}
 use Rattle.request_model.proofs.ReadNames.{tails, is_close, closes}
 
 -- the text of x, where something that closes follows, tells `told x` and ends where it ends

@@ -9,7 +9,7 @@ use Rattle.request_model.specs.declared.document.GValue.TheOpen.{GValue-F}
 use Rattle.request_model.specs.declared.document.GValue.TheViews.{out-GValue, roll-GValue, roll-out-GValue, out-GPair, roll-GPair}
 use Rattle.request_model.specs.declared.document.GValue.TheFolds.{fold_out-GPair}
 use Rattle.request_model.specs.Strings.{Text}
-use Rattle.request_model.specs.Canonical.{named_text}
+use Rattle.scalar_val.specs.Joined.{named_text}
 use Rattle.request_model.specs.SelectionLaws.{is_name, written_value_step, written_pair_step, is_written_pair, renamed}
 use Rattle.request_model.proofs.ReadNames.{tails, is_part, closes, read_part}
 use Rattle.request_model.proofs.ReadLists.{Told, opens}

@@ -14,7 +14,7 @@ use Rattle.request_model.specs.declared.document.GValue.TheOpen.{GValue-F}
 use Rattle.request_model.specs.declared.document.GValue.TheViews.{roll-GValue}
 use Rattle.request_model.specs.declared.document.GValue.TheFolds.{fold-GValue, fold-roll-GValue, map-GValue}
 use Rattle.request_model.specs.Strings.{Text}
-use Rattle.request_model.specs.Canonical.{parted, in_brackets, in_braces}
+use Rattle.scalar_val.specs.Joined.{parted, in_brackets, in_braces}
 use Rattle.request_model.specs.SelectionLaws.{is_name, itself, written_value_step, written_pair_step, is_written_pair}
 use Rattle.request_model.proofs.ReadNames.{tails, apart, is_part, closes, closes_stops, read_part}
 use Rattle.request_model.proofs.ReadLists.{Told, opens, read_parted}

@@ -18,7 +18,7 @@ use Rattle.request_model.specs.declared.document.Document.{Document}
 use Rattle.request_model.specs.declared.flat.FlatField.{FlatField}
 use Rattle.request_model.specs.declared.flat.FlatField.TheViews.{roll-FlatField}
 use Rattle.request_model.specs.declared.flat.FlatFault.TheVariants as fault
-use Rattle.request_model.specs.declared.flat.Word.TheVariants as word
+use Rattle.scalar_val.specs.declared.word.Word.TheVariants as word
 use Rattle.request_model.specs.Strings.{Text}
 use Rattle.request_model.specs.Selection.{Operation, Fragment, flat_of, HasFault, Flattens, not_chosen, refused, spread_there}
 use Rattle.request_model.specs.Canonical.{canonical}

@@ -19,7 +19,8 @@ use Rattle.request_model.specs.declared.flat.FlatField.TheViews.{roll-FlatField}
 use Rattle.request_model.specs.declared.flat.FlatField.TheFolds.{fold-FlatField, fold-roll-FlatField}
 use Rattle.request_model.specs.Strings.{Text}
 use Rattle.request_model.specs.Selection.{Scope, Collected, Collecting, selection_step, collect_one, unless_dropped, is_dropped, with_field, response_key, in_order, noted_if, concatenated, spreads_step, directives_step}
-use Rattle.request_model.specs.Canonical.{value_step, pair_step, value_text, pair_text, named_text, in_brackets, in_braces}
+use Rattle.request_model.specs.Canonical.{value_step, pair_step, value_text, pair_text}
+use Rattle.scalar_val.specs.Joined.{named_text, in_brackets, in_braces}
 
 -- ---- selections
 

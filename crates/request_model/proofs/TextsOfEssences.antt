@@ -8,7 +8,7 @@ use Rattle.request_model.specs.declared.document.GValue.TheVariants as v
 use Rattle.request_model.specs.declared.document.GPair.{GPair}
 use Rattle.request_model.specs.declared.document.GValue.TheOpen.{GValue-F, GPair-F}
 use Rattle.request_model.specs.declared.document.GValue.TheViews.{out-GValue, roll-GValue, roll-out-GValue, out-roll-GValue, outs-Many, outs-Object, out-GPair, roll-GPair, out-roll-GPair}
-use Rattle.request_model.specs.declared.flat.Word.{Word}
+use Rattle.scalar_val.specs.declared.word.Word.{Word}
 use Rattle.request_model.specs.declared.flat.FlatField.{FlatField}
 use Rattle.request_model.specs.declared.flat.FlatField.TheOpen.{FlatField-F}
 use Rattle.request_model.specs.declared.flat.FlatField.TheViews.{roll-FlatField}
@@ -16,7 +16,8 @@ use Rattle.request_model.specs.declared.flat.FlatField.TheFolds.{fold-FlatField,
 use Rattle.request_model.specs.declared.flat.Flat.{Flat}
 use Rattle.request_model.specs.Strings.{Text}
 use Rattle.request_model.specs.Selection.{by_name}
-use Rattle.request_model.specs.Canonical.{parted, in_brackets, in_braces, named_text, value_text, initial_text, cursor_pair, cursor_object, cursor_text_by, cursor_text, argument_text, in_parentheses, set_text, field_step, field_text, word_text, canonical}
+use Rattle.scalar_val.specs.Joined.{parted, in_brackets, in_braces, named_text}
+use Rattle.request_model.specs.Canonical.{value_text, initial_text, cursor_pair, cursor_object, cursor_text_by, cursor_text, argument_text, in_parentheses, set_text, field_step, field_text, word_text, canonical}
 use Rattle.request_model.specs.SelectionLaws.{bare_initial, bare_pair, bare_object, bare_cursor_by, bare_cursor, bare_argument, bare_step, bare_field, essence, CanonicalTellsNoMore}
 use Rattle.request_model.proofs.ReadParts.{ByName}
 use Rattle.request_model.proofs.ReadArguments.{firsts, object_by, object_told_by, object_text, object_told, inner, inner_told, keyed, hidden_text, hidden_told, hidden}

@@ -1,37 +1,23 @@
 -- The text by which selections that differ in the values of their variables alone are known to be one. This project's
 -- own.
-use Rattle.std.specs.Prelude.{ℕ, Bool, true, false, if◌then◌else◌, List, [], ◌∷◌, ◌++◌, map, flat_map, codes}
+use Rattle.std.specs.Prelude.{ℕ, Bool, true, false, if◌then◌else◌, List, [], ◌∷◌, ◌++◌, map, codes}
 use Rattle.std.specs.Str.{bytes_eq}
 use Rattle.scalar_val.specs.declared.val.Val.TheVariants as val
+use Rattle.scalar_val.specs.Joined.{parted, in_brackets, in_braces, named_text}
 use Rattle.scalar_val.specs.ValText.{val_text}
 use Rattle.request_model.specs.declared.document.GValue.{GValue}
 use Rattle.request_model.specs.declared.document.GValue.TheOpen.{GValue-F, GPair-F}
 use Rattle.request_model.specs.declared.document.GValue.TheViews.{out-GValue, out-GPair}
 use Rattle.request_model.specs.declared.document.GValue.TheFolds.{fold-GValue, fold-GPair}
 use Rattle.request_model.specs.declared.document.GPair.{GPair}
-use Rattle.request_model.specs.declared.flat.Word.{Word}
-use Rattle.request_model.specs.declared.flat.Word.TheVariants as word
+use Rattle.scalar_val.specs.declared.word.Word.{Word}
+use Rattle.scalar_val.specs.declared.word.Word.TheVariants as word
 use Rattle.request_model.specs.declared.flat.FlatField.{FlatField}
 use Rattle.request_model.specs.declared.flat.FlatField.TheOpen.{FlatField-F}
 use Rattle.request_model.specs.declared.flat.FlatField.TheFolds.{fold-FlatField}
 use Rattle.request_model.specs.declared.flat.Flat.{Flat}
 use Rattle.request_model.specs.Strings.{Text}
 use Rattle.request_model.specs.Selection.{by_name}
-
--- texts with a byte between each two
-abbrev pub parted : ℕ → List Text → Text
-parted b [] = []
-parted b (t ∷ ts) = t ++ flat_map (λ u. b ∷ u) ts
-
-abbrev pub in_brackets : List Text → Text
-in_brackets ts = 91 ∷ parted 44 ts ++ 93 ∷ []
-
-abbrev pub in_braces : List Text → Text
-in_braces ts = 123 ∷ parted 44 ts ++ 125 ∷ []
-
--- a name, a colon and what is named
-abbrev pub named_text : Text → Text → Text
-named_text name text = name ++ 58 ∷ text
 
 -- ---- values
 
@@ -64,7 +50,8 @@ abbrev pub initial_text : GValue → Text
 initial_text x = initial_text_by (value_text x) (out-GValue x)
 
 abbrev pub cursor_pair : GPair → Text
-cursor_pair p = if bytes_eq (out-GPair p).name (codes "initial_value") then named_text (out-GPair p).name (initial_text (out-GPair p).value) else pair_text p
+cursor_pair p = if bytes_eq (out-GPair p).name (codes "initial_value")
+    then named_text (out-GPair p).name (initial_text (out-GPair p).value) else pair_text p
 
 abbrev pub cursor_object_by : Text → GValue-F GValue GPair → Text
 cursor_object_by other (GValue-F.Object pairs) = in_braces (map cursor_pair pairs)
@@ -81,7 +68,8 @@ abbrev pub cursor_text : GValue → Text
 cursor_text x = cursor_text_by (cursor_object x) (out-GValue x)
 
 abbrev pub argument_text : GPair → Text
-argument_text p = if bytes_eq (out-GPair p).name (codes "cursor") then named_text (out-GPair p).name (cursor_text (out-GPair p).value) else pair_text p
+argument_text p = if bytes_eq (out-GPair p).name (codes "cursor")
+    then named_text (out-GPair p).name (cursor_text (out-GPair p).value) else pair_text p
 
 -- ---- fields
 
@@ -95,7 +83,8 @@ set_text true fields = 123 ∷ parted 32 fields ++ 125 ∷ []
 set_text false fields = []
 
 abbrev pub field_step : FlatField-F Text → Text
-field_step f = named_text f.key f.name ++ in_parentheses (map argument_text (by_name f.args)) ++ set_text f.nested f.fields
+field_step f = named_text f.key f.name ++ in_parentheses (map argument_text (by_name f.args))
+    ++ set_text f.nested f.fields
 
 abbrev pub field_text : FlatField → Text
 field_text = fold-FlatField Text field_step

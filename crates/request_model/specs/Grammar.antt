@@ -17,7 +17,8 @@ use Rattle.request_model.specs.declared.document.Definition.{Definition}
 use Rattle.request_model.specs.declared.document.Definition.TheVariants as d
 use Rattle.request_model.specs.declared.document.Document.{Document}
 
--- a lexeme without its place: a punctuator by its byte, a name or an integer as it is written, or a string with what stands between its quotes
+-- a lexeme without its place: a punctuator by its byte, a name or an integer as it is written, or a string with what
+-- stands between its quotes
 pub data Lexeme : Type 0 where
   Punct : ℕ → Lexeme
   Spread : Lexeme
@@ -59,9 +60,11 @@ abbrev pub end_brace : Lexeme
 end_brace = Punct 125
 
 -- Rule*
-pub data Many {A : Type 0} (R : List Lexeme → A → List Lexeme → Type 0) : List Lexeme → List A → List Lexeme → Type 0 where
+pub data Many {A : Type 0} (R : List Lexeme → A → List Lexeme → Type 0) : List Lexeme → List A → List Lexeme →
+    Type 0 where
   no_more : {rest : List Lexeme} → Many R rest [] rest
-  one_more : {ts mid rest : List Lexeme} {x : A} {xs : List A} → R ts x mid → Many R mid xs rest → Many R ts (x ∷ xs) rest
+  one_more : {ts mid rest : List Lexeme} {x : A} {xs : List A} → R ts x mid → Many R mid xs rest →
+      Many R ts (x ∷ xs) rest
 
 -- Name?
 pub data MaybeName : List Lexeme → Option Text → List Lexeme → Type 0 where
@@ -73,38 +76,47 @@ pub data MaybeName : List Lexeme → Option Text → List Lexeme → Type 0 wher
 mutual
   -- $ Name | Int | String | true | false | null | Enum | [ Value* ] | { (Name : Value)* }
   pub data IsValue (constant : Bool) : List Lexeme → GValue → List Lexeme → Type 0 where
-    variable : {n : Text} {rest : List Lexeme} → constant ≡ false → IsValue constant (dollar ∷ Name n ∷ rest) (v.Var n) rest
+    variable : {n : Text} {rest : List Lexeme} → constant ≡ false →
+        IsValue constant (dollar ∷ Name n ∷ rest) (v.Var n) rest
     integer : {n : Text} {rest : List Lexeme} → IsValue constant (Int n ∷ rest) (v.Int n) rest
     string : {n : Text} {rest : List Lexeme} → IsValue constant (Quoted n ∷ rest) (v.Text (unescaped n)) rest
     true_ : {rest : List Lexeme} → IsValue constant (Name (codes "true") ∷ rest) (v.Bool true) rest
     false_ : {rest : List Lexeme} → IsValue constant (Name (codes "false") ∷ rest) (v.Bool false) rest
     null : {rest : List Lexeme} → IsValue constant (Name (codes "null") ∷ rest) v.Null rest
-    enum : {n : Text} {rest : List Lexeme} → n ≢ codes "true" → n ≢ codes "false" → n ≢ codes "null" → IsValue constant (Name n ∷ rest) (v.Enum n) rest
-    list : {ts rest : List Lexeme} {xs : List GValue} → IsValues constant ts xs (end_bracket ∷ rest) → IsValue constant (bracket ∷ ts) (v.Many xs) rest
-    object : {ts rest : List Lexeme} {xs : List GPair} → IsPairs constant ts xs (end_brace ∷ rest) → IsValue constant (brace ∷ ts) (v.Object xs) rest
+    enum : {n : Text} {rest : List Lexeme} → n ≢ codes "true" → n ≢ codes "false" → n ≢ codes "null" →
+        IsValue constant (Name n ∷ rest) (v.Enum n) rest
+    list : {ts rest : List Lexeme} {xs : List GValue} → IsValues constant ts xs (end_bracket ∷ rest) →
+        IsValue constant (bracket ∷ ts) (v.Many xs) rest
+    object : {ts rest : List Lexeme} {xs : List GPair} → IsPairs constant ts xs (end_brace ∷ rest) →
+        IsValue constant (brace ∷ ts) (v.Object xs) rest
 
   pub data IsValues (constant : Bool) : List Lexeme → List GValue → List Lexeme → Type 0 where
     no_values : {rest : List Lexeme} → IsValues constant rest [] rest
-    more_values : {ts mid rest : List Lexeme} {x : GValue} {xs : List GValue} → IsValue constant ts x mid → IsValues constant mid xs rest → IsValues constant ts (x ∷ xs) rest
+    more_values : {ts mid rest : List Lexeme} {x : GValue} {xs : List GValue} → IsValue constant ts x mid →
+        IsValues constant mid xs rest → IsValues constant ts (x ∷ xs) rest
 
   -- Name : Value
   pub data IsPair (constant : Bool) : List Lexeme → GPair → List Lexeme → Type 0 where
-    a_pair : {n : Text} {ts rest : List Lexeme} {x : GValue} → IsValue constant ts x rest → IsPair constant (Name n ∷ colon ∷ ts) (roll-GPair (record { name = n; value = x })) rest
+    a_pair : {n : Text} {ts rest : List Lexeme} {x : GValue} → IsValue constant ts x rest →
+        IsPair constant (Name n ∷ colon ∷ ts) (roll-GPair (record { name = n; value = x })) rest
 
   pub data IsPairs (constant : Bool) : List Lexeme → List GPair → List Lexeme → Type 0 where
     no_pairs : {rest : List Lexeme} → IsPairs constant rest [] rest
-    more_pairs : {ts mid rest : List Lexeme} {x : GPair} {xs : List GPair} → IsPair constant ts x mid → IsPairs constant mid xs rest → IsPairs constant ts (x ∷ xs) rest
+    more_pairs : {ts mid rest : List Lexeme} {x : GPair} {xs : List GPair} → IsPair constant ts x mid →
+        IsPairs constant mid xs rest → IsPairs constant ts (x ∷ xs) rest
 
 -- ---- arguments and directives (sections 2.6 and 2.12)
 
 -- Arguments? : nothing, or ( (Name : Value)+ )
 pub data MaybeArguments (constant : Bool) : List Lexeme → List GPair → List Lexeme → Type 0 where
   no_arguments : {rest : List Lexeme} → MaybeArguments constant rest [] rest
-  some_arguments : {ts mid rest : List Lexeme} {x : GPair} {xs : List GPair} → IsPair constant ts x mid → IsPairs constant mid xs (end_paren ∷ rest) → MaybeArguments constant (paren ∷ ts) (x ∷ xs) rest
+  some_arguments : {ts mid rest : List Lexeme} {x : GPair} {xs : List GPair} → IsPair constant ts x mid →
+      IsPairs constant mid xs (end_paren ∷ rest) → MaybeArguments constant (paren ∷ ts) (x ∷ xs) rest
 
 -- @ Name Arguments?
 pub data IsDirective (constant : Bool) : List Lexeme → Directive → List Lexeme → Type 0 where
-  a_directive : {n : Text} {ts rest : List Lexeme} {xs : List GPair} → MaybeArguments constant ts xs rest → IsDirective constant (at_sign ∷ Name n ∷ ts) (record { name = n; args = xs }) rest
+  a_directive : {n : Text} {ts rest : List Lexeme} {xs : List GPair} → MaybeArguments constant ts xs rest →
+      IsDirective constant (at_sign ∷ Name n ∷ ts) (record { name = n; args = xs }) rest
 
 -- Directives?
 abbrev pub Directives : Bool → List Lexeme → List Directive → List Lexeme → Type 0
@@ -116,8 +128,10 @@ Directives constant = Many (IsDirective constant)
 pub data IsType : List Lexeme → TypeRef → List Lexeme → Type 0 where
   named : {n : Text} {rest : List Lexeme} → IsType (Name n ∷ rest) (t.Named n false) rest
   named_strict : {n : Text} {rest : List Lexeme} → IsType (Name n ∷ bang ∷ rest) (t.Named n true) rest
-  listed : {ts rest : List Lexeme} {x : TypeRef} → IsType ts x (end_bracket ∷ rest) → IsType (bracket ∷ ts) (t.Listed x false) rest
-  listed_strict : {ts rest : List Lexeme} {x : TypeRef} → IsType ts x (end_bracket ∷ bang ∷ rest) → IsType (bracket ∷ ts) (t.Listed x true) rest
+  listed : {ts rest : List Lexeme} {x : TypeRef} → IsType ts x (end_bracket ∷ rest) →
+      IsType (bracket ∷ ts) (t.Listed x false) rest
+  listed_strict : {ts rest : List Lexeme} {x : TypeRef} → IsType ts x (end_bracket ∷ bang ∷ rest) →
+      IsType (bracket ∷ ts) (t.Listed x true) rest
 
 -- (= Value)?
 pub data MaybeDefault : List Lexeme → Option GValue → List Lexeme → Type 0 where
@@ -133,7 +147,8 @@ pub data IsVarDef : List Lexeme → VarDef → List Lexeme → Type 0 where
 -- VarDefs? : nothing, or ( VarDef+ )
 pub data MaybeVariables : List Lexeme → List VarDef → List Lexeme → Type 0 where
   no_variables : {rest : List Lexeme} → MaybeVariables rest [] rest
-  some_variables : {ts mid rest : List Lexeme} {x : VarDef} {xs : List VarDef} → IsVarDef ts x mid → Many IsVarDef mid xs (end_paren ∷ rest) → MaybeVariables (paren ∷ ts) (x ∷ xs) rest
+  some_variables : {ts mid rest : List Lexeme} {x : VarDef} {xs : List VarDef} → IsVarDef ts x mid →
+      Many IsVarDef mid xs (end_paren ∷ rest) → MaybeVariables (paren ∷ ts) (x ∷ xs) rest
 
 -- ---- selections (sections 2.4 to 2.8)
 
@@ -145,24 +160,30 @@ pub data IsFieldName : List Lexeme → Option Text × Text → List Lexeme → T
 mutual
   pub data IsSelection : List Lexeme → Selection → List Lexeme → Type 0 where
     -- (Name :)? Name Arguments? Directives? SelectionSet?
-    field : {ts t1 t2 t3 rest : List Lexeme} {called : Option Text × Text} {args : List GPair} {ds : List Directive} {set : List Selection} →
-        IsFieldName ts called t1 → MaybeArguments false t1 args t2 → Directives false t2 ds t3 → MaybeSet t3 set rest → IsSelection ts (s.Field called.0 called.1 args ds set) rest
+    field : {ts t1 t2 t3 rest : List Lexeme} {called : Option Text × Text} {args : List GPair} {ds : List Directive}
+        {set : List Selection} →
+        IsFieldName ts called t1 → MaybeArguments false t1 args t2 → Directives false t2 ds t3 → MaybeSet t3 set rest →
+        IsSelection ts (s.Field called.0 called.1 args ds set) rest
     -- ... FragName Directives?, where a fragment's name isn't on
-    spread : {n : Text} {ts rest : List Lexeme} {ds : List Directive} → n ≢ codes "on" → Directives false ts ds rest → IsSelection (Spread ∷ Name n ∷ ts) (s.Spread n ds) rest
+    spread : {n : Text} {ts rest : List Lexeme} {ds : List Directive} → n ≢ codes "on" → Directives false ts ds rest →
+        IsSelection (Spread ∷ Name n ∷ ts) (s.Spread n ds) rest
     -- ... Directives? SelectionSet
     inline : {ts mid rest : List Lexeme} {ds : List Directive} {set : List Selection} →
         Directives false ts ds mid → IsSet mid set rest → IsSelection (Spread ∷ ts) (s.Inline None ds set) rest
     -- ... on Name Directives? SelectionSet
     inline_on : {n : Text} {ts mid rest : List Lexeme} {ds : List Directive} {set : List Selection} →
-        Directives false ts ds mid → IsSet mid set rest → IsSelection (Spread ∷ Name (codes "on") ∷ Name n ∷ ts) (s.Inline (Some n) ds set) rest
+        Directives false ts ds mid → IsSet mid set rest →
+        IsSelection (Spread ∷ Name (codes "on") ∷ Name n ∷ ts) (s.Inline (Some n) ds set) rest
 
   pub data IsSelections : List Lexeme → List Selection → List Lexeme → Type 0 where
     no_selections : {rest : List Lexeme} → IsSelections rest [] rest
-    more_selections : {ts mid rest : List Lexeme} {x : Selection} {xs : List Selection} → IsSelection ts x mid → IsSelections mid xs rest → IsSelections ts (x ∷ xs) rest
+    more_selections : {ts mid rest : List Lexeme} {x : Selection} {xs : List Selection} → IsSelection ts x mid →
+        IsSelections mid xs rest → IsSelections ts (x ∷ xs) rest
 
   -- { Selection+ }
   pub data IsSet : List Lexeme → List Selection → List Lexeme → Type 0 where
-    a_set : {ts mid rest : List Lexeme} {x : Selection} {xs : List Selection} → IsSelection ts x mid → IsSelections mid xs (end_brace ∷ rest) → IsSet (brace ∷ ts) (x ∷ xs) rest
+    a_set : {ts mid rest : List Lexeme} {x : Selection} {xs : List Selection} → IsSelection ts x mid →
+        IsSelections mid xs (end_brace ∷ rest) → IsSet (brace ∷ ts) (x ∷ xs) rest
 
   -- SelectionSet?
   pub data MaybeSet : List Lexeme → List Selection → List Lexeme → Type 0 where
@@ -179,14 +200,20 @@ pub data IsOpWord : Text → OpWord → Type 0 where
 
 pub data IsDefinition : List Lexeme → Definition → List Lexeme → Type 0 where
   -- SelectionSet, which is a query
-  shorthand : {ts rest : List Lexeme} {set : List Selection} → IsSet ts set rest → IsDefinition ts (d.Operation word.Query None [] [] set) rest
+  shorthand : {ts rest : List Lexeme} {set : List Selection} → IsSet ts set rest →
+      IsDefinition ts (d.Operation word.Query None [] [] set) rest
   -- OpWord Name? VarDefs? Directives? SelectionSet
-  operation : {w : Text} {o : OpWord} {ts t1 t2 t3 rest : List Lexeme} {name : Option Text} {vars : List VarDef} {ds : List Directive} {set : List Selection} →
-      IsOpWord w o → MaybeName ts name t1 → MaybeVariables t1 vars t2 → Directives false t2 ds t3 → IsSet t3 set rest → IsDefinition (Name w ∷ ts) (d.Operation o name vars ds set) rest
+  operation : {w : Text} {o : OpWord} {ts t1 t2 t3 rest : List Lexeme} {name : Option Text}
+      {vars : List VarDef} {ds : List Directive} {set : List Selection} →
+      IsOpWord w o → MaybeName ts name t1 → MaybeVariables t1 vars t2 → Directives false t2 ds t3 → IsSet t3 set rest →
+      IsDefinition (Name w ∷ ts) (d.Operation o name vars ds set) rest
   -- fragment FragName on Name Directives? SelectionSet
   fragment : {n on : Text} {ts mid rest : List Lexeme} {ds : List Directive} {set : List Selection} →
-      n ≢ codes "on" → Directives false ts ds mid → IsSet mid set rest → IsDefinition (Name (codes "fragment") ∷ Name n ∷ Name (codes "on") ∷ Name on ∷ ts) (d.Fragment n on ds set) rest
+      n ≢ codes "on" → Directives false ts ds mid → IsSet mid set rest →
+      IsDefinition (Name (codes "fragment") ∷ Name n ∷ Name (codes "on") ∷ Name on ∷ ts) (d.Fragment n on ds set)
+      rest
 
 -- Definition+
 pub data IsDocument : List Lexeme → Document → List Lexeme → Type 0 where
-  a_document : {ts mid rest : List Lexeme} {x : Definition} {xs : List Definition} → IsDefinition ts x mid → Many IsDefinition mid xs rest → IsDocument ts (record { definitions = x ∷ xs }) rest
+  a_document : {ts mid rest : List Lexeme} {x : Definition} {xs : List Definition} → IsDefinition ts x mid →
+      Many IsDefinition mid xs rest → IsDocument ts (record { definitions = x ∷ xs }) rest

@@ -1,5 +1,27 @@
--- The lexemes of a text and its first bad one: GraphQL October 2021, section 2.1 "Source Text" and Appendix A, without floats and block strings.
-use Rattle.std.specs.Prelude.{ℕ, zero, suc, ◌+◌, ◌-◌, not, Bool, ◌&&◌, ◌||◌, if◌then◌else◌, ◌==◌, List, [], ◌∷◌, ◌++◌, drop, slice_index, Option, Some, None}
+-- The lexemes of a text and its first bad one: GraphQL October 2021, section 2.1 "Source Text" and Appendix A,
+-- without floats and block strings.
+use Rattle.std.specs.Prelude.{
+  ℕ,
+  zero,
+  suc,
+  ◌+◌,
+  ◌-◌,
+  not,
+  Bool,
+  ◌&&◌,
+  ◌||◌,
+  if◌then◌else◌,
+  ◌==◌,
+  List,
+  [],
+  ◌∷◌,
+  ◌++◌,
+  drop,
+  slice_index,
+  Option,
+  Some,
+  None,
+}
 use Rattle.std.specs.Char.{is_ascii_digit, is_ascii_alphabetic, is_ascii_alphanumeric}
 use Rattle.std.specs.List.{prefix_len}
 use Rattle.request_model.specs.declared.token.Token.{Token}
@@ -30,7 +52,8 @@ is_mark z = slice_index z 0 == 239 && slice_index z 1 == 187 && slice_index z 2 
 -- ---- punctuators (section 2.1.8): ! $ & ( ) : = @ [ ] { | } and the three dots
 
 abbrev pub is_punct : ℕ → Bool
-is_punct b = b == 33 || b == 36 || b == 38 || b == 40 || b == 41 || b == 58 || b == 61 || b == 64 || b == 91 || b == 93 || b == 123 || b == 124 || b == 125
+is_punct b = b == 33 || b == 36 || b == 38 || b == 40 || b == 41 || b == 58 || b == 61 || b == 64 || b == 91 || b == 93
+    || b == 123 || b == 124 || b == 125
 
 abbrev pub dots : Text → Front
 dots z = if slice_index z 1 == 46 && slice_index z 2 == 46 then Found kind.Spread 3 else Bad
@@ -51,7 +74,8 @@ digits_len z = if slice_index z 0 == 48 then 1 else prefix_len is_ascii_digit z
 
 abbrev pub int_len : Text → ℕ
 int_len z =
-    if slice_index z 0 == 45 then (if digits_len (drop 1 z) == 0 then 0 else digits_len (drop 1 z) + 1) else digits_len z
+    if slice_index z 0 == 45 then (if digits_len (drop 1 z) == 0 then 0 else digits_len (drop 1 z) + 1)
+    else digits_len z
 
 -- no digit, letter, _ or point may follow
 abbrev pub int : Text → Front

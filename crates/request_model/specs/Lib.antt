@@ -2,7 +2,6 @@ pub mod Strings
 pub mod Lexemes
 pub mod Grammar
 pub mod Place
-pub mod Ordered
 pub mod Selection
 pub mod Canonical
 pub mod SelectionLaws

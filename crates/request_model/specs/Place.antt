@@ -1,5 +1,29 @@
--- What a text says, and the place of its first fault: GraphQL October 2021, section 2.2 "Document". The limits on length and nesting and the place of a fault are this project's own.
-use Rattle.std.specs.Prelude.{◌≡◌, ℕ, ◌+◌, ◌-◌, ◌<◌, ◌≤◌, Bool, false, ◌&&◌, ◌||◌, if◌then◌else◌, ◌==◌, nat_le, List, [], ◌∷◌, ◌++◌, length, slice_range, map, Some, None}
+-- What a text says, and the place of its first fault: GraphQL October 2021, section 2.2 "Document". The limits on
+-- length and nesting and the place of a fault are this project's own.
+use Rattle.std.specs.Prelude.{
+  ◌≡◌,
+  ℕ,
+  ◌+◌,
+  ◌-◌,
+  ◌<◌,
+  ◌≤◌,
+  Bool,
+  false,
+  ◌&&◌,
+  ◌||◌,
+  if◌then◌else◌,
+  ◌==◌,
+  nat_le,
+  List,
+  [],
+  ◌∷◌,
+  ◌++◌,
+  length,
+  slice_range,
+  map,
+  Some,
+  None,
+}
 use Rattle.request_model.specs.declared.token.Token.{Token}
 use Rattle.request_model.specs.declared.token.TokenKind.{TokenKind}
 use Rattle.request_model.specs.declared.token.TokenKind.TheVariants as kind
@@ -70,10 +94,12 @@ pub data FaultAt (text : Text) : ℕ → Type 0 where
   -- the text is too long, whatever it says
   too_long : length_limit < length text → FaultAt text length_limit
   -- the lexemes before this one begin a document, and with it they don't
-  at_lexeme : length text ≤ length_limit → (before : List Token) (t : Token) (after : List Token) → (lexemes text).0 ≡ before ++ t ∷ after →
+  at_lexeme : length text ≤ length_limit → (before : List Token) (t : Token) (after : List Token) →
+      (lexemes text).0 ≡ before ++ t ∷ after →
       Begins (lexemes_of text before) → (Begins (lexemes_of text (before ++ t ∷ [])) → ⊥) → FaultAt text t.start
   -- all lexemes begin a document, and then comes a bad one
-  at_bad : length text ≤ length_limit → (at : ℕ) → (lexemes text).1 ≡ Some at → Begins (lexemes_of text (lexemes text).0) → FaultAt text at
+  at_bad : length text ≤ length_limit → (at : ℕ) → (lexemes text).1 ≡ Some at →
+      Begins (lexemes_of text (lexemes text).0) → FaultAt text at
   -- all lexemes begin a document, and they are none
   at_end : length text ≤ length_limit → (lexemes text).1 ≡ None → Begins (lexemes_of text (lexemes text).0) →
       ((d : Document) → Derives (lexemes_of text (lexemes text).0) d → ⊥) → FaultAt text (length text)

@@ -1,7 +1,43 @@
 -- The fields that an operation selects: GraphQL October 2021, section 6.3.2 "Field Collection", with the merging of
 -- sections 5.3.2 and 6.4.3, and what refuses an operation before that. The codes, their order and the limits are this
 -- project's own.
-use Rattle.std.specs.Prelude.{◌≡◌, ◌≢◌, ◌⊎◌, ℕ, zero, suc, ◌+◌, max, Bool, true, false, not, ◌&&◌, ◌||◌, if◌then◌else◌, nat_lt, List, [], ◌∷◌, ◌++◌, length, map, find, flat_map, Option, Some, None, is_none, option_and_then, unwrap_or, Result, Ok, Err, IsTrue, codes}
+use Rattle.std.specs.Prelude.{
+  ◌≡◌,
+  ◌≢◌,
+  ◌⊎◌,
+  ℕ,
+  zero,
+  suc,
+  ◌+◌,
+  max,
+  Bool,
+  true,
+  false,
+  not,
+  ◌&&◌,
+  ◌||◌,
+  if◌then◌else◌,
+  nat_lt,
+  List,
+  [],
+  ◌∷◌,
+  ◌++◌,
+  length,
+  map,
+  find,
+  flat_map,
+  Option,
+  Some,
+  None,
+  is_none,
+  option_and_then,
+  unwrap_or,
+  Result,
+  Ok,
+  Err,
+  IsTrue,
+  codes,
+}
 use Rattle.std.specs.List.{list_any, filter_map, AllByRecursion}
 use Rattle.std.specs.Str.{bytes_eq}
 use Rattle.std.specs.Ordering.{nat_cmp, on}
@@ -22,8 +58,8 @@ use Rattle.request_model.specs.declared.document.OpWord.TheVariants as op
 use Rattle.request_model.specs.declared.document.Definition.{Definition}
 use Rattle.request_model.specs.declared.document.Definition.TheVariants as definition
 use Rattle.request_model.specs.declared.document.Document.{Document}
-use Rattle.request_model.specs.declared.flat.Word.{Word}
-use Rattle.request_model.specs.declared.flat.Word.TheVariants as word
+use Rattle.scalar_val.specs.declared.word.Word.{Word}
+use Rattle.scalar_val.specs.declared.word.Word.TheVariants as word
 use Rattle.request_model.specs.declared.flat.FlatField.{FlatField}
 use Rattle.request_model.specs.declared.flat.FlatField.TheOpen.{FlatField-F}
 use Rattle.request_model.specs.declared.flat.FlatField.TheViews.{roll-FlatField}
@@ -32,7 +68,7 @@ use Rattle.request_model.specs.declared.flat.Flat.{Flat}
 use Rattle.request_model.specs.declared.flat.FlatFault.{FlatFault}
 use Rattle.request_model.specs.declared.flat.FlatFault.TheVariants as fault
 use Rattle.request_model.specs.Strings.{Text}
-use Rattle.request_model.specs.Ordered.{ordered}
+use Rattle.scalar_val.specs.Ordered.{ordered}
 
 -- ---- operations and fragments
 
@@ -50,7 +86,8 @@ pub record Fragment : Type 0 where
   pub select : List Selection
 
 abbrev pub operation_of : Definition → Option Operation
-operation_of (definition.Operation w n vs ds set) = Some (record { word = w; name = n; vars = vs; directives = ds; select = set })
+operation_of (definition.Operation w n vs ds set) = Some
+    (record { word = w; name = n; vars = vs; directives = ds; select = set })
 operation_of (definition.Fragment n on ds set) = None
 
 abbrev pub fragment_of : Definition → Option Fragment
@@ -118,7 +155,8 @@ variable_bool values x = bool_given (get_member x.name values) x.default
 
 abbrev pub bool_by : Scope → GValue-F GValue GPair → Option Bool
 bool_by s (GValue-F.Bool b) = Some b
-bool_by s (GValue-F.Var name) = option_and_then (variable_bool s.values) (find (λ (v : VarDef). bytes_eq name v.name) s.vars)
+bool_by s (GValue-F.Var name) = option_and_then (variable_bool s.values)
+    (find (λ (v : VarDef). bytes_eq name v.name) s.vars)
 bool_by s _ = None
 
 -- a boolean literal, or a declared variable whose value is a boolean
@@ -186,12 +224,15 @@ has_spread set name = list_any (bytes_eq name) (spreads set)
 
 -- the fragments that selections reach by spreads
 pub data IsReached (fs : List Fragment) (start : List Selection) : Fragment → Type 0 where
-  spread_there : {f : Fragment} (name : Text) → IsTrue (has_spread start name) → fragment_named fs name ≡ Some f → IsReached fs start f
-  spread_further : {f g : Fragment} (name : Text) → IsReached fs start f → IsTrue (has_spread f.select name) → fragment_named fs name ≡ Some g → IsReached fs start g
+  spread_there : {f : Fragment} (name : Text) → IsTrue (has_spread start name) → fragment_named fs name ≡ Some f →
+      IsReached fs start f
+  spread_further : {f g : Fragment} (name : Text) → IsReached fs start f → IsTrue (has_spread f.select name) →
+      fragment_named fs name ≡ Some g → IsReached fs start g
 
 -- it holds of the operation, or of a fragment that the operation reaches
 abbrev pub InReach : List Fragment → Operation → (List Directive → List Selection → Bool) → Type 0
-InReach fs o test = IsTrue (test o.directives o.select) ⊎ ((f : Fragment) × IsReached fs o.select f × IsTrue (test f.directives f.select))
+InReach fs o test = IsTrue (test o.directives o.select)
+    ⊎ ((f : Fragment) × IsReached fs o.select f × IsTrue (test f.directives f.select))
 
 -- ---- field collection
 
@@ -209,7 +250,8 @@ pub record Group : Type 0 where
 
 abbrev pub grouped : Selected → List Group → List Group
 grouped f [] = record { first = f; others = [] } ∷ []
-grouped f (g ∷ gs) = if bytes_eq f.key g.first.key then record { first = g.first; others = g.others ++ f ∷ [] } ∷ gs else g ∷ grouped f gs
+grouped f (g ∷ gs) = if bytes_eq f.key g.first.key then record { first = g.first; others = g.others ++ f ∷ [] } ∷ gs
+    else g ∷ grouped f gs
 
 -- what is collected of one object: the fragments that were spread, the type conditions that were met, and the fields
 pub record Collected : Type 0 where
@@ -253,9 +295,11 @@ module _ (s : Scope) where
   -- CollectFields; `spread` is what the spread of a name gives
   abbrev pub selection_step : (Text → Collecting) → Selection-F (Selection × Collecting) → Collecting
   selection_step spread (Selection-F.Field alias name args ds inner) =
-      unless_dropped (is_dropped s ds) (with_field (record { key = response_key alias name; name = name; args = args; select = map (λ e. e.0) inner }))
+      unless_dropped (is_dropped s ds) (with_field
+      (record { key = response_key alias name; name = name; args = args; select = map (λ e. e.0) inner }))
   selection_step spread (Selection-F.Spread name ds) = unless_dropped (is_dropped s ds) (spread name)
-  selection_step spread (Selection-F.Inline on ds inner) = unless_dropped (is_dropped s ds) (λ c. in_order (map (λ e. e.1) inner) (noted_if on c))
+  selection_step spread (Selection-F.Inline on ds inner) = unless_dropped (is_dropped s ds)
+      (λ c. in_order (map (λ e. e.1) inner) (noted_if on c))
 
   unfoldable pub collect_one : (Text → Collecting) → Selection → Collecting
   collect_one spread = para-Selection Collecting (selection_step spread)
@@ -266,7 +310,8 @@ module _ (s : Scope) where
   -- a fragment gives its selections, once for each object
   abbrev pub visiting : (List Selection → Collecting) → Option Fragment → Collecting
   visiting inner None c = c
-  visiting inner (Some f) c = if list_any (bytes_eq f.name) c.visited then c else inner f.select (noted f.on (with_visited f.name c))
+  visiting inner (Some f) c = if list_any (bytes_eq f.name) c.visited then c
+      else inner f.select (noted f.on (with_visited f.name c))
 
   -- Since an object takes each fragment once, spreads nest at most as deep as there are fragments.
   abbrev pub spreading : ℕ → Text → Collecting
@@ -361,7 +406,8 @@ Some_of P (x ∷ xs) = P x ⊎ Some_of P xs
 abbrev pub FieldsConflict : Scope → ℕ → List Selection → Type 0
 FieldsConflict s zero set = ⊥
 FieldsConflict s (suc levels) set =
-    Some_of (λ (g : Group). Some_of (Differ g.first) g.others ⊎ FieldsConflict s levels (inner_set g)) (collected s set).groups
+    Some_of (λ (g : Group). Some_of (Differ g.first) g.others ⊎ FieldsConflict s levels (inner_set g))
+    (collected s set).groups
 
 abbrev pub repeats : List Text → Bool
 repeats [] = false
@@ -369,7 +415,8 @@ repeats (t ∷ ts) = list_any (bytes_eq t) ts || repeats ts
 
 -- two operations, two fragments or two variables of the operation share a name
 abbrev pub shares_name : Document → Operation → Bool
-shares_name d o = repeats (filter_map (λ (p : Operation). p.name) (operations d)) || repeats (map (λ (f : Fragment). f.name) (fragments d)) || repeats (map (λ (v : VarDef). v.name) o.vars)
+shares_name d o = repeats (filter_map (λ (p : Operation). p.name) (operations d))
+    || repeats (map (λ (f : Fragment). f.name) (fragments d)) || repeats (map (λ (v : VarDef). v.name) o.vars)
 
 -- ---- what refuses an operation
 
@@ -396,8 +443,10 @@ module _ (d : Document) (values : Members) (o : Operation) where
   abbrev pub HasFault : FlatFault → Type 0
   HasFault fault.NotServed = served o.word ≡ None
   HasFault fault.UnknownFragment = InReach (fragments d) o has_unknown
-  HasFault fault.FragmentCycle = (f : Fragment) × IsReached (fragments d) o.select f × IsReached (fragments d) f.select f
-  HasFault fault.NoDirective = IsTrue (list_any (λ (v : VarDef). has_some v.directives) o.vars) ⊎ InReach (fragments d) o has_stray
+  HasFault fault.FragmentCycle = (f : Fragment) × IsReached (fragments d) o.select f
+      × IsReached (fragments d) f.select f
+  HasFault fault.NoDirective = IsTrue (list_any (λ (v : VarDef). has_some v.directives) o.vars)
+      ⊎ InReach (fragments d) o has_stray
   HasFault fault.NotBoolean = InReach (fragments d) o has_no_boolean
   HasFault fault.TooLarge = IsTrue (is_large (fields_seen scope o.select))
   HasFault fault.Conflict = IsTrue (shares_name d o) ⊎ FieldsConflict scope most_levels o.select
@@ -406,11 +455,18 @@ module _ (d : Document) (values : Members) (o : Operation) where
   HasFault fault.NoMemory = ⊥
 
   abbrev pub flat_of : Word → Flat
-  flat_of w = record { kind = w; vars = o.vars; conditions = (collected scope o.select).conditions; fields = fields_seen scope o.select }
+  flat_of w = record {
+    kind = w;
+    vars = o.vars;
+    conditions = (collected scope o.select).conditions;
+    fields = fields_seen
+        scope o.select;
+  }
 
 -- the faults in their order
 abbrev pub fault_order : List FlatFault
-fault_order = fault.NotServed ∷ fault.UnknownFragment ∷ fault.FragmentCycle ∷ fault.NoDirective ∷ fault.NotBoolean ∷ fault.TooLarge ∷ fault.Conflict ∷ []
+fault_order = fault.NotServed ∷ fault.UnknownFragment ∷ fault.FragmentCycle ∷ fault.NoDirective ∷ fault.NotBoolean
+    ∷ fault.TooLarge ∷ fault.Conflict ∷ []
 
 -- x is the first of the list that holds
 abbrev pub IsFirst : (FlatFault → Type 0) → List FlatFault → FlatFault → Type 0
@@ -420,6 +476,8 @@ IsFirst Holds (y ∷ ys) x = (Holds y × (x ≡ y)) ⊎ ((Holds y → ⊥) × Is
 -- The flat selection of the wanted operation of a document, with these values for its variables, or the first fault.
 pub data Flattens (d : Document) (wanted : Option Text) (values : Members) : Result Flat FlatFault → Type 0 where
   not_chosen : {x : FlatFault} → chosen wanted (operations d) ≡ Err x → Flattens d wanted values (Err x)
-  refused : {o : Operation} {x : FlatFault} → chosen wanted (operations d) ≡ Ok o → IsFirst (HasFault d values o) fault_order x → Flattens d wanted values (Err x)
-  flattened : {o : Operation} {w : Word} → chosen wanted (operations d) ≡ Ok o → AllByRecursion (λ x. HasFault d values o x → ⊥) fault_order → served o.word ≡ Some w →
+  refused : {o : Operation} {x : FlatFault} → chosen wanted (operations d) ≡ Ok o →
+      IsFirst (HasFault d values o) fault_order x → Flattens d wanted values (Err x)
+  flattened : {o : Operation} {w : Word} → chosen wanted (operations d) ≡ Ok o →
+      AllByRecursion (λ x. HasFault d values o x → ⊥) fault_order → served o.word ≡ Some w →
       Flattens d wanted values (Ok (flat_of d values o w))

@@ -1,5 +1,27 @@
 -- What holds of flat selections and their canonical texts. This project's own.
-use Rattle.std.specs.Prelude.{◌≡◌, Bool, true, false, not, ◌&&◌, ◌||◌, if◌then◌else◌, ◌==◌, nat_lt, List, [], ◌∷◌, length, map, slice_index, Option, Result, Ok, IsTrue, codes}
+use Rattle.std.specs.Prelude.{
+  ◌≡◌,
+  Bool,
+  true,
+  false,
+  not,
+  ◌&&◌,
+  ◌||◌,
+  if◌then◌else◌,
+  ◌==◌,
+  nat_lt,
+  List,
+  [],
+  ◌∷◌,
+  length,
+  map,
+  slice_index,
+  Option,
+  Result,
+  Ok,
+  IsTrue,
+  codes,
+}
 use Rattle.std.specs.List.{list_all, prefix_len}
 use Rattle.std.specs.Str.{bytes_eq}
 use Rattle.serde_json.specs.Data.{Members}
@@ -10,7 +32,7 @@ use Rattle.request_model.specs.declared.document.GValue.TheViews.{out-GValue, ou
 use Rattle.request_model.specs.declared.document.GValue.TheFolds.{fold-GPair}
 use Rattle.request_model.specs.declared.document.GPair.{GPair, roll-GPair}
 use Rattle.request_model.specs.declared.document.Document.{Document}
-use Rattle.request_model.specs.declared.flat.Word.{Word}
+use Rattle.scalar_val.specs.declared.word.Word.{Word}
 use Rattle.request_model.specs.declared.flat.FlatField.{FlatField}
 use Rattle.request_model.specs.declared.flat.FlatField.TheOpen.{FlatField-F}
 use Rattle.request_model.specs.declared.flat.FlatField.TheViews.{roll-FlatField}
@@ -37,7 +59,8 @@ abbrev pub bare_initial : GValue → GValue
 bare_initial x = bare_initial_by x (out-GValue x)
 
 abbrev pub bare_pair : GPair → GPair
-bare_pair p = if bytes_eq (out-GPair p).name (codes "initial_value") then renamed p (bare_initial (out-GPair p).value) else p
+bare_pair p = if bytes_eq (out-GPair p).name (codes "initial_value") then renamed p (bare_initial (out-GPair p).value)
+    else p
 
 abbrev pub bare_object_by : GValue → GValue-F GValue GPair → GValue
 bare_object_by x (GValue-F.Object pairs) = v.Object (map bare_pair pairs)
@@ -54,10 +77,20 @@ abbrev pub bare_cursor : GValue → GValue
 bare_cursor x = bare_cursor_by (bare_object x) (out-GValue x)
 
 abbrev pub bare_argument : GPair → GPair
-bare_argument p = if bytes_eq (out-GPair p).name (codes "cursor") then renamed p (bare_cursor (out-GPair p).value) else p
+bare_argument p = if bytes_eq (out-GPair p).name (codes "cursor") then renamed p (bare_cursor (out-GPair p).value)
+    else p
 
 abbrev pub bare_step : FlatField-F FlatField → FlatField
-bare_step f = roll-FlatField (record { key = f.key; name = f.name; args = map bare_argument (by_name f.args); nested = f.nested; conditions = []; fields = f.fields })
+bare_step f = roll-FlatField
+    (record {
+      key = f.key;
+      name = f.name;
+      args = map bare_argument
+          (by_name f.args);
+      nested = f.nested;
+      conditions = [];
+      fields = f.fields;
+    })
 
 abbrev pub bare_field : FlatField → FlatField
 bare_field = fold-FlatField FlatField bare_step
@@ -100,7 +133,8 @@ is_empty [] = true
 is_empty (x ∷ xs) = false
 
 abbrev pub written_field_step : FlatField-F Bool → Bool
-written_field_step f = is_name f.key && is_name f.name && list_all is_written_pair f.args && (f.nested || is_empty f.fields) && list_all itself f.fields
+written_field_step f = is_name f.key && is_name f.name && list_all is_written_pair f.args
+    && (f.nested || is_empty f.fields) && list_all itself f.fields
 
 abbrev pub is_written : Flat → Bool
 is_written f = list_all (fold-FlatField Bool written_field_step) f.fields
@@ -109,15 +143,18 @@ is_written f = list_all (fold-FlatField Bool written_field_step) f.fields
 
 -- an operation has one flat selection at most, or one first fault, and not both
 abbrev pub FlattensOnce : Type 0
-FlattensOnce = (d : Document) (wanted : Option Text) (values : Members) (a b : Result Flat FlatFault) → Flattens d wanted values a → Flattens d wanted values b → a ≡ b
+FlattensOnce = (d : Document) (wanted : Option Text) (values : Members) (a b : Result Flat FlatFault) →
+    Flattens d wanted values a → Flattens d wanted values b → a ≡ b
 
 -- a flat selection of a text is a written one
 abbrev pub FlatsAreWritten : Type 0
-FlatsAreWritten = (text : Text) (d : Document) (wanted : Option Text) (values : Members) (f : Flat) → Reads text d → Flattens d wanted values (Ok f) → IsTrue (is_written f)
+FlatsAreWritten = (text : Text) (d : Document) (wanted : Option Text) (values : Members) (f : Flat) → Reads text d →
+    Flattens d wanted values (Ok f) → IsTrue (is_written f)
 
 -- equal canonical texts come from selections that are equal but for what the text doesn't tell
 abbrev pub CanonicalTells : Type 0
-CanonicalTells = (f g : Flat) → IsTrue (is_written f) → IsTrue (is_written g) → canonical f ≡ canonical g → essence f ≡ essence g
+CanonicalTells = (f g : Flat) → IsTrue (is_written f) → IsTrue (is_written g) → canonical f ≡ canonical g →
+    essence f ≡ essence g
 
 -- and the text depends on nothing else
 abbrev pub CanonicalTellsNoMore : Type 0

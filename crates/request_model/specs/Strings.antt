@@ -1,5 +1,31 @@
--- The characters between the quotes of a string: GraphQL October 2021, section 2.9.4 "String Value", without block strings.
-use Rattle.std.specs.Prelude.{ℕ, zero, suc, ◌+◌, ◌-◌, ◌*◌, Bool, not, ◌&&◌, ◌||◌, if◌then◌else◌, ◌==◌, nat_le, List, [], ◌∷◌, ◌++◌, drop, slice_index, encode_utf8, Option, Some, None, option_and_then}
+-- The characters between the quotes of a string: GraphQL October 2021, section 2.9.4 "String Value", without block
+-- strings.
+use Rattle.std.specs.Prelude.{
+  ℕ,
+  zero,
+  suc,
+  ◌+◌,
+  ◌-◌,
+  ◌*◌,
+  Bool,
+  not,
+  ◌&&◌,
+  ◌||◌,
+  if◌then◌else◌,
+  ◌==◌,
+  nat_le,
+  List,
+  [],
+  ◌∷◌,
+  ◌++◌,
+  drop,
+  slice_index,
+  encode_utf8,
+  Option,
+  Some,
+  None,
+  option_and_then,
+}
 use Rattle.std.specs.Char.{is_ascii_hexdigit, digit_value}
 use Rattle.std.specs.Option.{option_map}
 

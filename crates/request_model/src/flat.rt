@@ -1,12 +1,5 @@
 use crate::document::{GPairs, VarDefList};
-use scalar_val::{List, Str};
-
-/// The word of an operation that is served.
-#[derive(Clone, Copy, Debug, PartialEq, Eq)]
-pub enum Word {
-    Query,
-    Subscription,
-}
+use scalar_val::{List, Str, Word};
 
 pub type StrList = List<Str>;
 

@@ -11,6 +11,7 @@ pub use document::{
     Definition, DefinitionList, Directive, DirectiveList, Document, GPair, GPairs, GValue,
     GValueList, OpWord, Selection, SelectionList, TypeRef, VarDef, VarDefList,
 };
-pub use flat::{Flat, FlatFault, FlatField, FlatFieldList, StrList, Word};
+pub use flat::{Flat, FlatFault, FlatField, FlatFieldList, StrList};
 pub use laws::{canonical_texts, faults, flat_selections};
+pub use scalar_val::Word;
 pub use token::{Token, TokenKind};

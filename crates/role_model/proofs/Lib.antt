@@ -1,4 +1,2 @@
 pub mod StrMaps
-pub mod Truths
-pub mod TruthRows
 pub mod MetadataRows

@@ -5,7 +5,8 @@ use Rattle.toml.specs.Parse.{parse_document}
 use Rattle.role_model.specs.declared.metadata.MetaFault.{MetaFault}
 use Rattle.role_model.specs.declared.metadata.MetaFault.TheVariants.{Toml, BadForm, BadVersion, NoColumn, BadKind}
 use Rattle.role_model.specs.declared.metadata.Metadata.{Metadata}
-use Rattle.role_model.specs.MetadataFaults.{parsed_by, links_other_kinds, lacks_a_filter}
+use Rattle.role_model.specs.MetadataFaults.{links_other_kinds, lacks_a_filter}
+use Rattle.role_model.specs.MetadataMeaning.{parsed_by}
 
 -- what a text in ASCII says
 abbrev said : List ℕ → Result Metadata MetaFault

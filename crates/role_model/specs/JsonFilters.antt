@@ -1,6 +1,7 @@
 -- The filters that metadata writes in JSON, with the operators of Hasura's boolean expressions. Which forms are
 -- allowed is this project's own.
-use Rattle.std.specs.Prelude.{ℕ, Bool, true, false, ◌∷◌, [], ◌++◌, List, if◌then◌else◌, nat_eq, is_some, unwrap_or, Option, Some, None, option_map, option_and_then, slice_get, codes, position}
+use Rattle.std.specs.Prelude.{ℕ, Bool, true, false, ◌∷◌, [], ◌++◌, List, if◌then◌else◌, nat_eq, is_some, unwrap_or}
+use Rattle.std.specs.Prelude.{Option, Some, None, option_map, option_and_then, slice_get, codes, position}
 use Rattle.std.specs.List.{fold, list_any, starts_with}
 use Rattle.std.specs.Str.{bytes_eq, str_to_ascii_lowercase}
 use Rattle.serde_json.specs.Data as json
@@ -9,14 +10,15 @@ use Rattle.scalar_val.specs.declared.val.Kind.{Kind}
 use Rattle.scalar_val.specs.declared.val.Val.{Val}
 use Rattle.scalar_val.specs.declared.val.Val.TheVariants as val
 use Rattle.scalar_val.specs.Spellings.{fitted}
+use Rattle.data_model.specs.JsonParts.{scalar_of}
 use Rattle.data_model.specs.declared.catalog.Column.{Column}
-use Rattle.role_model.specs.declared.filter.Filter.{Filter}
-use Rattle.role_model.specs.declared.filter.Filter.TheVariants.{And, Or, Not, Cmp, Among, IsNull}
-use Rattle.role_model.specs.declared.filter.Items.TheVariants.{Each}
-use Rattle.role_model.specs.declared.filter.Op.{Op}
-use Rattle.role_model.specs.declared.filter.Op.TheVariants.{Eq, Neq, Gt, Gte, Lt, Lte}
-use Rattle.role_model.specs.declared.filter.Operand.{Operand}
-use Rattle.role_model.specs.declared.filter.Operand.TheVariants.{Const, Sess}
+use Rattle.plan_model.specs.declared.filter.Filter.{Filter}
+use Rattle.plan_model.specs.declared.filter.Filter.TheVariants.{And, Or, Not, Cmp, Among, IsNull}
+use Rattle.plan_model.specs.declared.filter.Items.TheVariants.{Each}
+use Rattle.plan_model.specs.declared.filter.Op.{Op}
+use Rattle.plan_model.specs.declared.filter.Op.TheVariants.{Eq, Neq, Gt, Gte, Lt, Lte}
+use Rattle.plan_model.specs.declared.filter.Operand.{Operand}
+use Rattle.plan_model.specs.declared.filter.Operand.TheVariants.{Const, Sess}
 use Rattle.role_model.specs.Texts.{Text}
 
 -- the first item and the others, where both are there
@@ -68,13 +70,6 @@ distinct = fold with_text []
 abbrev pub slot_of : List Text → Text → ℕ
 slot_of names name = unwrap_or (position (bytes_eq name) names) 0
 
--- a boolean, an integer within 64 bits or a string
-abbrev pub scalar_of : json.Data → Option Val
-scalar_of (json.boolean b) = Some (val.Bool b)
-scalar_of (json.number n) = option_map val.Big (as_i64 n)
-scalar_of (json.string s) = Some (val.Text s)
-scalar_of _ = None
-
 -- a value of the column's kind, written there
 abbrev pub constant : Kind → json.Data → Option Operand
 constant kind d = option_map Const (option_and_then (fitted kind) (scalar_of d))
@@ -104,9 +99,6 @@ op_named name =
     else if bytes_eq name (codes "_lt") then Some Lt
     else if bytes_eq name (codes "_lte") then Some Lte
     else None
-
-abbrev pub compares : ℕ → Op → Operand → Filter
-compares column op operand = Cmp column op operand
 
 -- one operator of a column, with its value
 unfoldable pub operator_of : List Text → ℕ → Kind → Text → json.Data → Option Filter
@@ -159,4 +151,5 @@ module _ (columns : List Column) (names : List Text) where
 
     pub pairs_of : json.Members → Option (List Filter)
     pairs_of json.no_members = Some []
-    pairs_of (json.member k d ms) = with_first (pair_of k (filter_of d) (filters_of d) (column_condition columns names k d)) (pairs_of ms)
+    pairs_of (json.member k d ms) =
+        with_first (pair_of k (filter_of d) (filters_of d) (column_condition columns names k d)) (pairs_of ms)

@@ -1,9 +1,11 @@
 -- The keys of metadata in TOML 1.1, the forms of their values, and the defaults of those that may be left out. This
 -- project's own.
-use Rattle.std.specs.Prelude.{ℕ, ℤ, pos, Bool, true, false, ◌&&◌, List, [], ◌∷◌, if◌then◌else◌, int_le, is_some, unwrap_or, Option, Some, None, option_map, option_and_then, codes}
+use Rattle.std.specs.Prelude.{ℕ, ℤ, pos, Bool, true, false, ◌&&◌, List, [], ◌∷◌, if◌then◌else◌, int_le, is_some}
+use Rattle.std.specs.Prelude.{unwrap_or, Option, Some, None, option_map, option_and_then, codes}
 use Rattle.std.specs.List.{list_any}
 use Rattle.std.specs.Str.{bytes_eq}
-use Rattle.toml.specs.Data.{Data, Items, no_items, item, Members, no_members, member, get_member, as_str, as_bool, as_integer, as_array, as_table}
+use Rattle.toml.specs.Data.{Data, Items, no_items, item, Members, no_members, member, get_member}
+use Rattle.toml.specs.Data.{as_str, as_bool, as_integer, as_array, as_table}
 use Rattle.serde_json.specs.Read.{read}
 use Rattle.scalar_val.specs.declared.val.Kind.{Kind}
 use Rattle.scalar_val.specs.declared.val.Kind.TheVariants as kind
@@ -28,7 +30,8 @@ nat_of (pos n) = n
 nat_of _ = 0
 
 abbrev pub integer_from : ℕ → ℕ → Data → Option ℕ
-integer_from least most d = as_integer d >>= (λ z. if int_le (pos least) z && int_le z (pos most) then Some (nat_of z) else None)
+integer_from least most d =
+    as_integer d >>= (λ z. if int_le (pos least) z && int_le z (pos most) then Some (nat_of z) else None)
 
 abbrev pub kind_named : Text → Option Kind
 kind_named text =
@@ -133,7 +136,9 @@ permission_of = table_with permission_keys permission_in
 -- a table
 
 abbrev pub table_keys : List Text
-table_keys = codes "name" ∷ codes "key" ∷ codes "columns" ∷ codes "unique" ∷ codes "max_rows" ∷ codes "object" ∷ codes "array" ∷ codes "select" ∷ []
+table_keys =
+    codes "name" ∷ codes "key" ∷ codes "columns" ∷ codes "unique" ∷ codes "max_rows"
+    ∷ codes "object" ∷ codes "array" ∷ codes "select" ∷ []
 
 abbrev pub table_in : Members → Option TableEntry
 table_in ms =
@@ -145,7 +150,16 @@ table_in ms =
     with_default (list_of link_of) [] (codes "object") ms >>= (λ object.
     with_default (list_of link_of) [] (codes "array") ms >>= (λ array.
     with_default (list_of permission_of) [] (codes "select") ms >>= (λ select.
-    Some (record { name = name; key = key; columns = columns; unique = unique; max_rows = max_rows; object = object; array = array; select = select })))))))))
+    Some (record {
+      name = name;
+      key = key;
+      columns = columns;
+      unique = unique;
+      max_rows = max_rows;
+      object = object;
+      array = array;
+      select = select;
+    })))))))))
 
 abbrev pub table_of : Data → Option TableEntry
 table_of = table_with table_keys table_in
@@ -153,7 +167,9 @@ table_of = table_with table_keys table_in
 -- the whole document
 
 abbrev pub document_keys : List Text
-document_keys = codes "version" ∷ codes "batch_size" ∷ codes "refetch_ms" ∷ codes "admin_secret" ∷ codes "unauthorized_role" ∷ codes "tables" ∷ []
+document_keys =
+    codes "version" ∷ codes "batch_size" ∷ codes "refetch_ms" ∷ codes "admin_secret" ∷ codes "unauthorized_role"
+    ∷ codes "tables" ∷ []
 
 abbrev pub document_in : Members → Option Document
 document_in ms =
@@ -163,7 +179,14 @@ document_in ms =
     optional as_str (codes "admin_secret") ms >>= (λ admin_secret.
     optional filled_text (codes "unauthorized_role") ms >>= (λ unauthorized_role.
     required (list_of table_of) (codes "tables") ms >>= (λ tables.
-    Some (record { version = version; batch_size = batch_size; refetch_ms = refetch_ms; admin_secret = admin_secret; unauthorized_role = unauthorized_role; tables = tables })))))))
+    Some (record {
+      version = version;
+      batch_size = batch_size;
+      refetch_ms = refetch_ms;
+      admin_secret = admin_secret;
+      unauthorized_role = unauthorized_role;
+      tables = tables;
+    })))))))
 
 abbrev pub document_of : Members → Option Document
 document_of ms = if has_only document_keys ms then document_in ms else None

@@ -1,10 +1,11 @@
 -- What a role sees of the tables, by its permissions. The role `admin` sees all. The rules are Hasura's; that a
 -- relationship is seen where its table is, is this project's own.
-use Rattle.std.specs.Prelude.{ℕ, Bool, false, ◌&&◌, ◌||◌, ◌==◌, List, [], if◌then◌else◌, is_some, nat_lt, length, Option, Some, None, option_map, option_and_then, codes, slice_get, position, find}
+use Rattle.std.specs.Prelude.{ℕ, Bool, false, ◌&&◌, ◌||◌, ◌==◌, List, [], if◌then◌else◌, is_some, nat_lt, length}
+use Rattle.std.specs.Prelude.{Option, Some, None, option_map, option_and_then, codes, slice_get, position, find}
 use Rattle.std.specs.List.{list_any, list_all}
 use Rattle.std.specs.Str.{bytes_eq}
 use Rattle.data_model.specs.declared.catalog.TableDef.{TableDef}
-use Rattle.role_model.specs.declared.filter.Filter.{Filter}
+use Rattle.plan_model.specs.declared.filter.Filter.{Filter}
 use Rattle.role_model.specs.declared.metadata.Grant.{Grant}
 use Rattle.role_model.specs.declared.metadata.LinkDef.{LinkDef}
 use Rattle.role_model.specs.declared.metadata.Metadata.{Metadata}
@@ -44,7 +45,9 @@ only_if b o = if b then o else None
 
 -- the number of the table of this name
 abbrev pub table_seen : View → Text → Option ℕ
-table_seen v name = option_and_then (λ table. only_if (sees_table v table) (Some table)) (position (λ (t : TableDef). bytes_eq name t.name) v.metadata.catalog.tables)
+table_seen v name =
+    option_and_then (λ table. only_if (sees_table v table) (Some table))
+    (position (λ (t : TableDef). bytes_eq name t.name) v.metadata.catalog.tables)
 
 abbrev pub grants_column : ℕ → Option Grant → Bool
 grants_column column (Some g) = list_any (λ c. c == column) g.columns
@@ -56,7 +59,10 @@ sees_column v table column = is_admin v || grants_column column (grant_on v tabl
 -- the number of the column of this name
 abbrev pub column_seen : View → ℕ → Text → Option ℕ
 column_seen v table name =
-    option_and_then (λ (t : TableDef). option_and_then (λ column. only_if (sees_column v table column) (Some column)) (column_number t.columns name)) (table_at v table)
+    option_and_then
+    (λ (t : TableDef).
+    option_and_then (λ column. only_if (sees_column v table column) (Some column)) (column_number t.columns name))
+    (table_at v table)
 
 abbrev pub links_at : Option (List LinkDef) → List LinkDef
 links_at (Some ls) = ls
@@ -65,7 +71,9 @@ links_at None = []
 -- the relationship of this name, where the role sees both tables
 abbrev pub link_seen : View → ℕ → Text → Option LinkDef
 link_seen v table name =
-    only_if (sees_table v table) (option_and_then (λ (l : LinkDef). only_if (sees_table v l.table) (Some l)) (find (λ l. bytes_eq name l.name) (links_at (slice_get v.metadata.links table))))
+    only_if (sees_table v table)
+    (option_and_then (λ (l : LinkDef). only_if (sees_table v l.table) (Some l))
+    (find (λ l. bytes_eq name l.name) (links_at (slice_get v.metadata.links table))))
 
 -- the role sees the table and all of its key columns
 abbrev pub key_seen : View → ℕ → Bool

@@ -1,6 +1,7 @@
 -- Who a connection acts for, by the headers that it sends. The headers are Hasura's; the rules for secrets, for the
 -- unauthorized role and for repeated headers are this project's own.
-use Rattle.std.specs.Prelude.{Bool, true, false, not, ◌&&◌, [], if◌then◌else◌, unwrap_or, Option, Some, None, option_and_then, codes, filter}
+use Rattle.std.specs.Prelude.{Bool, true, false, not, ◌&&◌, [], if◌then◌else◌, unwrap_or, codes, filter}
+use Rattle.std.specs.Prelude.{Option, Some, None, option_and_then}
 use Rattle.std.specs.Str.{bytes_eq, str_to_ascii_lowercase}
 use Rattle.serde_json.specs.Data.{Data, string, Members, no_members, member}
 use Rattle.serde_json.specs.Find.{get, as_object}
@@ -51,7 +52,10 @@ unauthorized None = Forbidden
 abbrev pub identity_by : Metadata → Texts → Identity
 identity_by m headers =
     if is_trusted m.secret headers
-    then Allowed (record { role = unwrap_or (value_of role_header headers) (codes "admin"); vars = filter is_session_variable headers })
+    then Allowed (record {
+      role = unwrap_or (value_of role_header headers) (codes "admin");
+      vars = filter is_session_variable headers;
+    })
     else unauthorized m.unauthorized_role
 
 abbrev pub identity_of : Metadata → Option Data → Identity

@@ -1,4 +1,5 @@
--- A map from texts to texts, as the list of its names and values in ascending order of the names' bytes. This project's own.
+-- A text is the list of its bytes. A map from texts to texts is the list of its names and values, in ascending order of
+-- the names' bytes, each name once. This project's own.
 use Rattle.std.specs.Prelude.{ℕ, List, [], ◌∷◌, Option, Some, None}
 use Rattle.std.specs.Ordering.{nat_cmp, match_ordering}
 use Rattle.std.specs.Cmp.Lexicographic.{slice_cmp}
@@ -17,4 +18,8 @@ value_of name (e ∷ es) = match_ordering (slice_cmp nat_cmp name e.0) (value_of
 -- the map with this value at the name, in place of the one that it had
 abbrev pub with_value : Text → Text → Texts → Texts
 with_value name value [] = (name, value) ∷ []
-with_value name value (e ∷ es) = match_ordering (slice_cmp nat_cmp name e.0) ((name, value) ∷ e ∷ es) ((e.0, value) ∷ es) (e ∷ with_value name value es)
+with_value name value (e ∷ es) =
+    match_ordering (slice_cmp nat_cmp name e.0)
+    ((name, value) ∷ e ∷ es)
+    ((e.0, value) ∷ es)
+    (e ∷ with_value name value es)

@@ -1,7 +1,7 @@
-use crate::filter::Filter;
-use crate::plan::StrList;
 use data_model::{Catalog, ColumnDefList, ColumnList};
+use plan_model::{Filter, StrList};
 use scalar_val::{List, Str};
+use thiserror::Error;
 
 pub type TableEntryList = List<TableEntry>;
 
@@ -90,32 +90,44 @@ pub struct RoleDef {
 }
 
 /// What is wrong with metadata. Where several faults hold, the first one of this list counts.
-#[derive(Clone, Copy, Debug, PartialEq, Eq)]
+#[derive(Clone, Copy, Debug, PartialEq, Eq, Error)]
 pub enum MetaFault {
     /// The text has more than 1,048,576 bytes.
+    #[error("the metadata has more than 1,048,576 bytes")]
     TooLong,
     /// The text isn't UTF-8 or no TOML document.
+    #[error("the metadata is no TOML document in UTF-8")]
     Toml,
     /// There is an unknown key, a required key is missing, or a value is of another type or out of its range.
+    #[error("a key is unknown or missing, or a value is of another type or out of its range")]
     BadForm,
     /// The version isn't 1.
+    #[error("the version isn't 1")]
     BadVersion,
     /// There are more than 256 tables, or more than 64 columns in one table.
+    #[error("there are more than 256 tables, or a table has more than 64 columns")]
     TooMany,
     /// The name of a table, column or relationship isn't a GraphQL name, or begins with `__`.
+    #[error("a table, column or relationship has a name that isn't a GraphQL name or begins with `__`")]
     BadName,
     /// Two root fields or two fields of one table share a name, a name stands twice in a list of columns, or a table
     /// has two permissions for one role.
+    #[error("a name stands twice, or a table has two permissions for one role")]
     Duplicate,
     /// A relationship names no table.
+    #[error("a relationship names no table")]
     NoTable,
-    /// A list of columns names no column of its table.
+    /// A list of columns names a column that its table doesn't have.
+    #[error("a list of columns names a column that its table doesn't have")]
     NoColumn,
     /// A key column is nullable, or the two column lists of a relationship differ in length or in a type.
+    #[error("a key column is nullable, or the columns of a relationship differ in number or in type")]
     BadKind,
     /// A permission is for the role `admin`.
+    #[error("a permission is for the role `admin`")]
     BadRole,
     /// A filter isn't one.
+    #[error("the filter of a permission isn't one for its table")]
     BadFilter,
 }
 

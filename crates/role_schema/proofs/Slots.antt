@@ -12,20 +12,22 @@ use Rattle.scalar_val.specs.declared.val.Val.TheVariants as val
 use Rattle.scalar_val.specs.Spellings.{fitted}
 use Rattle.data_model.proofs.Lists.{out_parts}
 use Rattle.data_model.specs.declared.catalog.Column.{Column}
-use Rattle.filter_read.proofs.Places.{placed, position_here, position_past}
-use Rattle.role_model.specs.declared.filter.Binding.{Binding}
-use Rattle.role_model.specs.declared.filter.Filter.{Filter}
-use Rattle.role_model.specs.declared.filter.Filter.TheVariants as filter
-use Rattle.role_model.specs.declared.filter.Filter.TheVariants.{rolls-And, rolls-Or, rolls-Not, rolls-Cmp, rolls-Among, rolls-IsNull}
-use Rattle.role_model.specs.declared.filter.Filter.TheFolds.{fold-roll-Filter}
-use Rattle.role_model.specs.declared.filter.Items.{Items}
-use Rattle.role_model.specs.declared.filter.Items.TheVariants.{Each}
-use Rattle.role_model.specs.declared.filter.Op.{Op}
-use Rattle.role_model.specs.declared.filter.Operand.{Operand}
-use Rattle.role_model.specs.declared.filter.Operand.TheVariants.{Const}
-use Rattle.role_model.specs.JsonFilters.{with_first, of_each, of_each_member, names_session, session_variable, mentions, mentions_of_items, mentions_of_members, slot_of, scalar_of, operand_by, operand_of, item_of, items_of, op_named, operator_of, operators_of, column_number, condition_on, column_condition, pair_of, filter_of, filters_of, filters_of_items, pairs_of}
+use Rattle.name_set.proofs.Positions.{placed, position_here, position_past}
+use Rattle.plan_model.specs.declared.filter.Binding.{Binding}
+use Rattle.plan_model.specs.declared.filter.Filter.{Filter}
+use Rattle.plan_model.specs.declared.filter.Filter.TheVariants as filter
+use Rattle.plan_model.specs.declared.filter.Filter.TheVariants.{rolls-And, rolls-Or, rolls-Not, rolls-Cmp, rolls-Among, rolls-IsNull}
+use Rattle.plan_model.specs.declared.filter.Filter.TheFolds.{fold-roll-Filter}
+use Rattle.plan_model.specs.declared.filter.Items.{Items}
+use Rattle.plan_model.specs.declared.filter.Items.TheVariants.{Each}
+use Rattle.plan_model.specs.declared.filter.Op.{Op}
+use Rattle.plan_model.specs.declared.filter.Operand.{Operand}
+use Rattle.plan_model.specs.declared.filter.Operand.TheVariants.{Const}
+use Rattle.data_model.specs.JsonParts.{scalar_of}
+use Rattle.role_model.specs.JsonFilters.{with_first, of_each, of_each_member, names_session, session_variable, mentions, mentions_of_items, mentions_of_members, slot_of, operand_by, operand_of, item_of, items_of, op_named, operator_of, operators_of, column_number, condition_on, column_condition, pair_of, filter_of, filters_of, filters_of_items, pairs_of}
 use Rattle.role_model.specs.Texts.{Text}
-use Rattle.role_model.specs.Truth.{fits, fits_step, itself, operand_fits, items_fit, operand_value, is_bool}
+use Rattle.plan_model.specs.FilterFits.{fits, fits_step, itself, operand_fits, items_fit}
+use Rattle.plan_model.specs.Values.{operand_value, is_bool}
 
 -- each of these is among the names
 abbrev pub Known : List Text → List Text → Type 0

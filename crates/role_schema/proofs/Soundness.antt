@@ -1,6 +1,9 @@
--- Metadata that is read is sound.
-use Rattle.std.proofs.Common.{◌≡◌, ℕ, ◌+◌, ◌<◌, ◌≤◌, zero, suc, Bool, true, false, not, ◌&&◌, ◌||◌, Option, Some, None, Ok, Err, Result, List, [], ◌∷◌, ◌++◌, length, map, nat_lt, is_none, unwrap_or, option_map, if◌then◌else◌, refl, subst, sym, ap, ◌∙◌, arith}
-use Rattle.std.specs.List.{list_any, list_all, AllByRecursion, slice_get, flat_map, filter_map, cons_option, enumerate_from, fold}
+-- Metadata that some text says is sound.
+use Rattle.std.proofs.Common.{◌≡◌, ℕ, ◌+◌, ◌<◌, ◌≤◌, zero, suc, Bool, true, false, not, ◌&&◌, ◌||◌, Option, Some, None}
+use Rattle.std.proofs.Common.{Ok, Err, Result, List, [], ◌∷◌, ◌++◌, length, map, nat_lt, is_none, unwrap_or}
+use Rattle.std.proofs.Common.{option_map, if◌then◌else◌, refl, subst, sym, ap, ◌∙◌, arith}
+use Rattle.std.specs.List.{list_any, list_all, AllByRecursion, slice_get, flat_map, filter_map, cons_option}
+use Rattle.std.specs.List.{enumerate_from, fold}
 use Rattle.std.specs.Str.{bytes_eq}
 use Rattle.std.proofs.lemmas.Bool.Decides.{nat_tests}
 use Rattle.std.proofs.lemmas.List.{length-map}
@@ -10,7 +13,7 @@ use Rattle.std.proofs.lemmas.Slice.Eq.{bytes_eq-Decides}
 use Rattle.toml.specs.Data.{Members}
 use Rattle.data_model.proofs.Lists.{all_out, none_from_any, or_false, out_append, out_parts}
 use Rattle.data_model.specs.declared.catalog.Column.{Column}
-use Rattle.role_model.specs.declared.filter.Filter.{Filter}
+use Rattle.plan_model.specs.declared.filter.Filter.{Filter}
 use Rattle.role_model.specs.declared.metadata.Document.{Document}
 use Rattle.role_model.specs.declared.metadata.TableEntry.{TableEntry}
 use Rattle.role_model.specs.declared.metadata.LinkEntry.{LinkEntry}
@@ -21,12 +24,19 @@ use Rattle.role_model.specs.declared.metadata.MetaFault.{MetaFault}
 use Rattle.role_model.specs.declared.metadata.MetaFault.TheVariants.{TooLong}
 use Rattle.role_model.specs.JsonFilters.{column_number, mentions, with_text, filter_of}
 use Rattle.role_model.specs.MetadataForm.{document_of}
-use Rattle.role_model.specs.MetadataFaults.{links_of, table_number, columns_of, has_column, kind_in, json_of, wrong_version, too_many, bad_name, duplicate, no_table, lacks_a_column, link_lacks_a_column, table_lacks_a_column, no_column, links_other_kinds, has_a_bad_kind, bad_kind, fault_of, numbers_of, table_def, link_def, link_defs, permission_for, mentions_by, session_names, grant_of, grant_for, role_def, role_names, meaning_of, judged_by, formed_by, parsed_by, toml_of, metadata_of}
+use Rattle.role_model.specs.MetadataNames.{links_of, table_number, columns_of, has_column, kind_in, json_of}
+use Rattle.role_model.specs.MetadataFaults.{wrong_version, too_many, bad_name, duplicate, no_table, lacks_a_column}
+use Rattle.role_model.specs.MetadataFaults.{link_lacks_a_column, table_lacks_a_column, no_column, links_other_kinds}
+use Rattle.role_model.specs.MetadataFaults.{has_a_bad_kind, bad_kind, fault_of}
+use Rattle.role_model.specs.MetadataMeaning.{numbers_of, table_def, link_def, link_defs, permission_for, mentions_by}
+use Rattle.role_model.specs.MetadataMeaning.{session_names, grant_of, grant_for, role_def, role_names, meaning_of}
+use Rattle.role_model.specs.MetadataMeaning.{judged_by, formed_by, parsed_by, toml_of, metadata_of, IsMetadata}
 use Rattle.role_model.specs.Texts.{Text}
 use Rattle.role_schema.proofs.Forms.{LinkForm, TableForm, DocumentForm, document_form, same, steps_of}
 use Rattle.role_schema.proofs.Slots.{Known, First, first, first_placed, read_fits}
 use Rattle.role_schema.proofs.Uses.{found_holds}
-use Rattle.role_schema.specs.Sound.{Sound, SoundTable, SoundLink, SoundLinks, SoundGrant, SoundRole, columns_at, is_column, is_never_null, kind_at}
+use Rattle.role_schema.specs.Sound.{Sound, SoundTable, SoundLink, SoundLinks, SoundGrant, SoundRole, columns_at}
+use Rattle.role_schema.specs.Sound.{is_column, is_never_null, kind_at}
 
 -- lists
 
@@ -369,5 +379,8 @@ parsed m true o e = cc
 parsed m false (Some ms) e = formed ms m (document_of ms) refl e
 parsed m false None e = cc
 
-pub read_is_sound : (text : List ℕ) (m : Metadata) → metadata_of text ≡ Ok m → Sound m
-read_is_sound text m e = parsed m (nat_lt 1048576 (length text)) (toml_of text) e
+pub text_says : (text : List ℕ) (m : Metadata) → metadata_of text ≡ Ok m → IsMetadata m
+text_says text m e = (text, e)
+
+pub metadata_is_sound : (m : Metadata) → IsMetadata m → Sound m
+metadata_is_sound m said = parsed m (nat_lt 1048576 (length said.0)) (toml_of said.0) said.1

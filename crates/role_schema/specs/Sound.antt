@@ -6,15 +6,15 @@ use Rattle.std.specs.Cmp.Lexicographic.{pointwise}
 use Rattle.scalar_val.specs.declared.val.Kind.{Kind}
 use Rattle.data_model.specs.declared.catalog.Column.{Column}
 use Rattle.data_model.specs.declared.catalog.TableDef.{TableDef}
-use Rattle.role_model.specs.declared.filter.Binding.{Binding}
-use Rattle.role_model.specs.declared.filter.Filter.{Filter}
+use Rattle.plan_model.specs.declared.filter.Binding.{Binding}
+use Rattle.plan_model.specs.declared.filter.Filter.{Filter}
 use Rattle.role_model.specs.declared.metadata.Grant.{Grant}
 use Rattle.role_model.specs.declared.metadata.LinkDef.{LinkDef}
 use Rattle.role_model.specs.declared.metadata.Metadata.{Metadata}
 use Rattle.role_model.specs.declared.metadata.RoleDef.{RoleDef}
-use Rattle.role_model.specs.MetadataFaults.{same_kind}
+use Rattle.role_model.specs.MetadataNames.{are_one_kind}
 use Rattle.role_model.specs.Texts.{Text}
-use Rattle.role_model.specs.Truth.{fits}
+use Rattle.plan_model.specs.FilterFits.{fits}
 
 -- the columns of the table of this number; none where there is no such table
 abbrev pub columns_in : Option TableDef → List Column
@@ -49,7 +49,7 @@ pub record SoundLink (tables : List TableDef) (columns : List Column) (l : LinkD
   pub filled : 0 < length l.from
   pub from : IsTrue (list_all (is_column columns) l.from)
   pub to : IsTrue (list_all (is_column (columns_at tables l.table)) l.to)
-  pub kinds : IsTrue (pointwise same_kind (map (kind_at columns) l.from) (map (kind_at (columns_at tables l.table)) l.to))
+  pub kinds : IsTrue (pointwise are_one_kind (map (kind_at columns) l.from) (map (kind_at (columns_at tables l.table)) l.to))
 
 -- the relationships of each table
 abbrev pub SoundLinks : List TableDef → List TableDef → List (List LinkDef) → Type 0

@@ -1,24 +1,29 @@
-ghost use Rattle.std.specs.Prelude.{◌≡◌, ◌≤◌, length, Ok, Err, IfOk};
+ghost use Rattle.std.specs.Prelude.{◌≡◌, ◌≤◌, length, map, find, option_and_then, slice_get, Ok, Err, IfOk};
 ghost use Rattle.std.specs.List.{AllByRecursion};
 ghost use Rattle.std.specs.Option.{option_copied};
+ghost use Rattle.std.specs.Str.{bytes_eq};
 ghost use Rattle.toml.specs.View.{table_view};
 ghost use Rattle.role_model.specs.MetadataForm.{document_of};
-ghost use Rattle.role_model.specs.MetadataFaults.{fault_of, judged_by, formed_by, metadata_of};
+ghost use Rattle.role_model.specs.MetadataFaults.{fault_of};
+ghost use Rattle.role_model.specs.MetadataMeaning.{judged_by, formed_by, metadata_of, IsMetadata};
 ghost use Rattle.role_schema.specs.Sound.{Sound, SoundTable};
 
 use data_model::Catalog;
 use metadata_form::{FormFault, read_document, read_toml};
-use metadata_read::{find_fault, read_meaning};
-use role_model::{Document, MetaFault, Metadata};
+use metadata_read::{Meaning, find_fault, read_meaning};
+use name_set::NameSet;
+use role_model::{Document, MetaFault, Metadata, RoleDef};
 use scalar_val::NoMemory;
 use std::alloc::Global;
 use std::marker::Model;
 use toml::Table;
 
-/// Why metadata isn't read: the first fault that holds of it, or want of memory.
+/// Why metadata isn't read.
 #[derive(Clone, Copy, Debug, PartialEq, Eq)]
 pub enum MetaReadFault {
+    /// The first fault that holds of the text.
     Refused(MetaFault),
+    /// Memory was refused.
     NoMemory,
 }
 
@@ -33,8 +38,18 @@ impl From<NoMemory> for MetaReadFault {
     }
 }
 
-fn judge(alloc: Global, document: Document) -> Result<Metadata, MetaReadFault>
-    ensures ok { IfOk result (λ m. judged_by document (fault_of document) ≡ Ok m) }
+fn role_at(roles: &[RoleDef], place: Option<usize>) -> Option<&RoleDef>
+    ensures { option_copied result ≡ option_and_then (slice_get roles.now) place }
+{
+    match place {
+        Some(at) => roles.get(at),
+        None => None,
+    }
+}
+
+fn judge(alloc: Global, document: Document) -> Result<Meaning, MetaReadFault>
+    ensures ok { IfOk result (λ m. judged_by document (fault_of document) ≡ Ok m.metadata) }
+    ensures names { IfOk result (λ m. m.role_names ≡ map (λ r. r.name) m.metadata.roles) }
     ensures refused { (fault : MetaFault) → result ≡ Err (MetaReadFault.Refused fault) → judged_by document (fault_of document) ≡ Err fault }
 {
     match find_fault(alloc, &document)? {
@@ -43,8 +58,9 @@ fn judge(alloc: Global, document: Document) -> Result<Metadata, MetaReadFault>
     }
 }
 
-fn judge_form(alloc: Global, table: &Table) -> Result<Metadata, MetaReadFault>
-    ensures ok { IfOk result (λ m. formed_by (document_of (table_view table.now)) ≡ Ok m) }
+fn judge_form(alloc: Global, table: &Table) -> Result<Meaning, MetaReadFault>
+    ensures ok { IfOk result (λ m. formed_by (document_of (table_view table.now)) ≡ Ok m.metadata) }
+    ensures names { IfOk result (λ m. m.role_names ≡ map (λ r. r.name) m.metadata.roles) }
     ensures refused { (fault : MetaFault) → result ≡ Err (MetaReadFault.Refused fault) → formed_by (document_of (table_view table.now)) ≡ Err fault }
 {
     match read_document(alloc, table) {
@@ -54,8 +70,9 @@ fn judge_form(alloc: Global, table: &Table) -> Result<Metadata, MetaReadFault>
     }
 }
 
-fn read_metadata(alloc: Global, text: &[u8]) -> Result<Metadata, MetaReadFault>
-    ensures ok { IfOk result (λ m. metadata_of text.now ≡ Ok m) }
+fn read_metadata(alloc: Global, text: &[u8]) -> Result<Meaning, MetaReadFault>
+    ensures ok { IfOk result (λ m. metadata_of text.now ≡ Ok m.metadata) }
+    ensures names { IfOk result (λ m. m.role_names ≡ map (λ r. r.name) m.metadata.roles) }
     ensures refused { (fault : MetaFault) → result ≡ Err (MetaReadFault.Refused fault) → metadata_of text.now ≡ Err fault }
 {
     if text.len() > 1048576 {
@@ -68,15 +85,17 @@ fn read_metadata(alloc: Global, text: &[u8]) -> Result<Metadata, MetaReadFault>
     }
 }
 
-/// Metadata that was read: tables, relationships, roles and settings. Contracts see what it says.
+/// Metadata that was read: tables, relationships, roles and settings. Contracts see what it says; some text says it. A
+/// role is found in logarithmic time.
 #[derive(Debug, Drop)]
 pub struct Meta {
     said: Metadata,
+    role_names: NameSet,
 }
 
 impl Model for Meta {
     ghost use Rattle.role_model.specs.declared.metadata.Metadata.{Metadata};
-    ghost use Rattle.role_schema.specs.Sound.{Sound};
+    ghost use Rattle.role_model.specs.MetadataMeaning.{IsMetadata};
 
     ghost Value = { Metadata };
 
@@ -86,25 +105,40 @@ impl Model for Meta {
 
     ghost view = { λ m. m.said };
 
-    ghost invariant = { λ m. Sound m.said };
+    ghost use Rattle.std.specs.Prelude.{◌≡◌, map};
+
+    ghost invariant = { λ m. IsMetadata m.said × (m.role_names ≡ map (λ r. r.name) m.said.roles) };
 }
 
 impl Meta {
     /// Metadata as its text says it, or the first fault that holds of the text, in the order of `MetaFault`. The text is
-    /// one TOML document in UTF-8.
-    #[tactic(auto, using(crate::proofs::Soundness::read_is_sound))]
+    /// one TOML document in UTF-8. `NoMemory` where memory is refused.
+    #[tactic(auto, using(crate::proofs::Soundness::text_says))]
     pub fn read(alloc: Global, text: &[u8]) -> Result<Meta, MetaReadFault>
         ensures ok { IfOk result (λ m. metadata_of text.now ≡ Ok m) }
         ensures refused { (fault : MetaFault) → result ≡ Err (MetaReadFault.Refused fault) → metadata_of text.now ≡ Err fault }
     {
         match read_metadata(alloc, text) {
-            Ok(said) => Ok(Meta { said }),
+            Ok(meaning) => {
+                let Meaning {
+                    metadata: said,
+                    role_names,
+                } = meaning;
+                Ok(Meta { said, role_names })
+            }
             Err(fault) => Err(fault),
         }
     }
 
-    /// Tells a proof what holds of all metadata that was read: its numbers are in range, and its filters fit their
-    /// tables. It does nothing.
+    /// Tells a proof that some text says this metadata. It does nothing.
+    pub fn is_metadata(&self)
+        ensures { IsMetadata self.now }
+    {
+        let _ = &self.said;
+    }
+
+    /// Tells a proof what holds of all metadata that some text says: its numbers are in range, and its filters fit
+    /// their tables. It does nothing.
     pub fn sound(&self)
         ensures { Sound self.now }
     {
@@ -117,6 +151,7 @@ impl Meta {
         ensures few { length result.now.tables ≤ 256 }
         ensures sound { AllByRecursion SoundTable result.now.tables }
     {
+        self.sound();
         &self.said.catalog
     }
 
@@ -125,6 +160,7 @@ impl Meta {
         ensures value { result ≡ self.now.batch_size }
         ensures range { (1 ≤ result) × (result ≤ 1000) }
     {
+        self.sound();
         self.said.batch_size
     }
 
@@ -133,6 +169,7 @@ impl Meta {
         ensures value { result ≡ self.now.refetch_ms }
         ensures range { (1 ≤ result) × (result ≤ 3600000) }
     {
+        self.sound();
         self.said.refetch_ms
     }
 
@@ -156,10 +193,18 @@ impl Meta {
         }
     }
 
+    /// What the metadata says of a role; `None` where no permission names it.
+    pub(crate) fn role_named(&self, name: &str) -> Option<&RoleDef>
+        ensures { option_copied result ≡ find (λ r. bytes_eq name.now r.name) self.now.roles }
+    {
+        role_at(self.said.roles.as_slice(), self.role_names.place(name))
+    }
+
     pub(crate) fn said(&self) -> &Metadata
         ensures value { result.now ≡ self.now }
         ensures sound { Sound self.now }
     {
+        self.sound();
         &self.said
     }
 }

@@ -292,6 +292,11 @@ fn settings_have_their_defaults(rt: HostRuntime) {
     assert!(rt; meta.refetch_ms() == 1000);
     assert!(rt; meta.secret().is_none());
     assert!(rt; meta.unauthorized_role().is_none());
+}
+
+#[test]
+fn settings_are_read(rt: HostRuntime) {
+    let alloc = rt.alloc();
     let Ok(meta) = Meta::read(
         alloc,
         b"version = 1\nbatch_size = 7\nadmin_secret = \"s\"\nunauthorized_role = \"guest\"\ntables = []\n",
@@ -305,7 +310,7 @@ fn settings_have_their_defaults(rt: HostRuntime) {
 }
 
 #[test]
-fn a_role_sees_what_its_permissions_name(rt: HostRuntime) {
+fn a_role_sees_the_tables_and_columns_of_its_permissions(rt: HostRuntime) {
     let alloc = rt.alloc();
     let Ok(meta) = Meta::read(alloc, TWO_TABLES.as_bytes()) else {
         assert!(rt; false, "two tables are metadata");
@@ -317,6 +322,16 @@ fn a_role_sees_what_its_permissions_name(rt: HostRuntime) {
     assert!(rt; reader.column(1, "title") == Some(2));
     assert!(rt; reader.column(1, "note").is_none());
     assert!(rt; reader.key_visible(1));
+}
+
+#[test]
+fn a_role_has_the_filters_of_its_permissions(rt: HostRuntime) {
+    let alloc = rt.alloc();
+    let Ok(meta) = Meta::read(alloc, TWO_TABLES.as_bytes()) else {
+        assert!(rt; false, "two tables are metadata");
+        return;
+    };
+    let reader = meta.view("reader");
     assert!(rt; reader.link(0, "posts").is_some());
     assert!(rt; reader.link(0, "author").is_none());
     assert!(rt; reader.filter(1).is_some());
@@ -326,7 +341,7 @@ fn a_role_sees_what_its_permissions_name(rt: HostRuntime) {
 }
 
 #[test]
-fn admin_sees_everything_and_a_role_without_permissions_nothing(rt: HostRuntime) {
+fn admin_sees_everything(rt: HostRuntime) {
     let alloc = rt.alloc();
     let Ok(meta) = Meta::read(alloc, TWO_TABLES.as_bytes()) else {
         assert!(rt; false, "two tables are metadata");
@@ -337,6 +352,15 @@ fn admin_sees_everything_and_a_role_without_permissions_nothing(rt: HostRuntime)
     assert!(rt; admin.link(1, "author").is_some());
     assert!(rt; admin.filter(1).is_none());
     assert!(rt; admin.session_name(0).is_none());
+}
+
+#[test]
+fn a_role_without_permissions_sees_nothing(rt: HostRuntime) {
+    let alloc = rt.alloc();
+    let Ok(meta) = Meta::read(alloc, TWO_TABLES.as_bytes()) else {
+        assert!(rt; false, "two tables are metadata");
+        return;
+    };
     let other = meta.view("other");
     assert!(rt; other.table("user").is_none());
     assert!(rt; other.column(0, "id").is_none());

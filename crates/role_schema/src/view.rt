@@ -1,14 +1,19 @@
-ghost use Rattle.std.specs.Prelude.{◌≡◌, ◌≤◌, ◌<◌, ◌==◌, length, slice_get, Some, None, IfSome, IsTrue, position, find, map, option_and_then, option_map, codes};
+ghost use Rattle.std.specs.Prelude.{◌≡◌, ◌≤◌, ◌<◌, ◌==◌, length, slice_get, Some, None, IfSome, IsTrue, position, find};
+ghost use Rattle.std.specs.Prelude.{map, option_and_then, option_map, codes};
 ghost use Rattle.std.specs.List.{list_any, list_all};
 ghost use Rattle.std.specs.Option.{option_copied};
 ghost use Rattle.std.specs.Str.{bytes_eq};
 ghost use Rattle.role_model.specs.JsonFilters.{column_number};
+ghost use Rattle.role_model.specs.MetadataMeaning.{IsMetadata};
 ghost use Rattle.role_schema.specs.Sound.{Sound, SoundLink, FitsRows, columns_at};
-ghost use Rattle.role_model.specs.Roles.{is_admin, role_of, grants_by, grant_on, table_at, sees_table, table_seen, only_if, grants_column, sees_column, column_seen, links_at, link_seen, key_seen, filter_seen, cap_seen, names_by, session_name_seen};
+ghost use Rattle.role_model.specs.Roles.{is_admin, role_of, grants_by, grant_on, table_at, sees_table, table_seen};
+ghost use Rattle.role_model.specs.Roles.{only_if, grants_column, sees_column, column_seen, links_at, link_seen};
+ghost use Rattle.role_model.specs.Roles.{key_seen, filter_seen, cap_seen, names_by, session_name_seen};
 
 use crate::meta::Meta;
 use data_model::{Column, TableDef};
-use role_model::{Filter, Grant, LinkDef, RoleDef};
+use plan_model::Filter;
+use role_model::{Grant, LinkDef, RoleDef};
 use scalar_val::Str;
 use std::marker::Model;
 
@@ -41,11 +46,11 @@ impl<'a> Model for RoleView<'a> {
 }
 
 impl Meta {
-    /// The metadata as a role sees it. The role is looked up once.
+    /// The metadata as a role sees it. The role is looked up once, in logarithmic time.
     pub fn view<'a>(&'a self, role: &'a str) -> RoleView<'a>
         ensures { result ≡ record { metadata = self.now; role = role.now } }
     {
-        let def = role_by(self.said().roles.as_slice(), role);
+        let def = self.role_named(role);
         RoleView {
             meta: self,
             role,
@@ -68,17 +73,6 @@ fn place_of_column(columns: &[Column], name: &str) -> Option<usize>
     columns
         .iter()
         .position(|column| name == column.name.as_str())
-}
-
-fn role_by<'a>(roles: &'a [RoleDef], name: &str) -> Option<&'a RoleDef>
-    ensures { option_copied result ≡ find (λ r. bytes_eq name.now r.name) roles.now }
-{
-    for role in roles {
-        if name == role.name.as_str() {
-            return Some(role);
-        }
-    }
-    None
 }
 
 fn grant_by(grants: &[Grant], table: u32) -> Option<&Grant>
@@ -115,6 +109,13 @@ fn has_column(columns: &[u32], column: u32) -> bool
 }
 
 impl<'a> RoleView<'a> {
+    /// Tells a proof that some text says the metadata. It does nothing.
+    pub fn is_metadata(&self)
+        ensures { IsMetadata self.now.metadata }
+    {
+        self.meta.is_metadata();
+    }
+
     /// Tells a proof what holds of the metadata. It does nothing.
     pub fn sound(&self)
         ensures { Sound self.now.metadata }

@@ -7,7 +7,8 @@ use Rattle.std.specs.List.{All, list_any}
 use Rattle.std.proofs.lemmas.List.{get_or_read}
 use Rattle.scalar_val.specs.declared.val.Val.{Val}
 use Rattle.data_model.specs.declared.catalog.TableDef.{TableDef}
-use Rattle.data_model.specs.Rows.{Row, Rows, Ascends, cell, key_cmp, is_below, is_above, has_key, clash}
+use Rattle.scalar_val.specs.Values.{cell}
+use Rattle.data_model.specs.Rows.{Row, Rows, Ascends, key_cmp, is_below, is_above, has_key, clash}
 use Rattle.data_model.specs.Places.{IsFree, IsHeld}
 use Rattle.data_model.proofs.Lists.{any_none}
 use Rattle.data_model.proofs.Places.{lt_is, below_upto, not_below_from, free_at, held_at}

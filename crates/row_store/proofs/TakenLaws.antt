@@ -13,7 +13,8 @@ use Rattle.scalar_val.proofs.OrderLaws.{val_cmp-total, val_cmp-exact}
 use Rattle.scalar_val.specs.declared.val.Val.{Val}
 use Rattle.scalar_val.specs.ValOrder.{val_cmp}
 use Rattle.data_model.specs.declared.catalog.TableDef.{TableDef}
-use Rattle.data_model.specs.Rows.{Row, Rows, FitsTable, cell, is_null, alike_at, clash, Pairwise}
+use Rattle.scalar_val.specs.Values.{is_null, cell}
+use Rattle.data_model.specs.Rows.{Row, Rows, FitsTable, alike_at, clash, Pairwise}
 use Rattle.data_model.proofs.Lists.{any_none, or_false, all_in, pairwise_before, pairwise_after}
 use Rattle.data_model.proofs.Places.{eq_is, held_parts}
 use Rattle.data_model.proofs.Fitting.{clash_back}

@@ -2,7 +2,8 @@
 use Rattle.std.specs.Prelude.{◌≡◌, ℕ, Bool, not, ◌&&◌, List, ◌==◌}
 use Rattle.std.specs.List.{list_any}
 use Rattle.std.specs.BTreeSet.{contains}
-use Rattle.data_model.specs.Rows.{Rows, is_null}
+use Rattle.scalar_val.specs.Values.{is_null}
+use Rattle.data_model.specs.Rows.{Rows}
 use Rattle.row_store.specs.declared.unique_key.UniqueKey.{UniqueKey}
 use Rattle.row_store.specs.declared.taken.Taken.{Taken}
 use Rattle.row_store.specs.UniqueKeys.{key_order, has_value}

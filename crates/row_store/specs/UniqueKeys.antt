@@ -7,7 +7,8 @@ use Rattle.std.specs.List.{flat_map}
 use Rattle.scalar_val.specs.declared.val.Val.{Val}
 use Rattle.scalar_val.specs.ValOrder.{val_cmp}
 use Rattle.scalar_val.proofs.OrderLaws.{val_cmp-total}
-use Rattle.data_model.specs.Rows.{Row, cell, is_null}
+use Rattle.scalar_val.specs.Values.{is_null, cell}
+use Rattle.data_model.specs.Rows.{Row}
 use Rattle.row_store.specs.declared.unique_key.UniqueKey.{UniqueKey}
 
 -- by column, then by value

@@ -1,5 +1,6 @@
 ghost use Rattle.std.specs.Prelude.{◌≡◌, take, IfOk};
-ghost use Rattle.data_model.specs.Rows.{cell, key_of};
+ghost use Rattle.scalar_val.specs.Values.{cell};
+ghost use Rattle.data_model.specs.Rows.{key_of};
 
 use data_model::{Catalog, Column, ColumnDefList, ColumnList, TableDef, TableDefList};
 use scalar_val::{Kind, List, NoMemory, Str, Val, copy_val};

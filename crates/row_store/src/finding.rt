@@ -3,24 +3,14 @@ ghost use Rattle.std.specs.Ordering.{is_eq};
 ghost use Rattle.std.specs.List.{All, list_any, remove};
 ghost use Rattle.scalar_val.specs.declared.val.Val.{Val};
 ghost use Rattle.scalar_val.specs.ValOrder.{val_cmp};
-ghost use Rattle.data_model.specs.Rows.{Row, Ascends, cell, key_of, key_cmp, is_below, has_key, is_null, alike_at, clash};
+ghost use Rattle.scalar_val.specs.Values.{is_null, cell};
+ghost use Rattle.data_model.specs.Rows.{Row, Ascends, key_of, key_cmp, is_below, has_key, alike_at, clash};
 ghost use Rattle.data_model.specs.Places.{IsFree, IsHeld};
 
 use crate::row::Row;
 use data_model::TableDef;
-use scalar_val::{Val, cmp};
+use scalar_val::{Val, cell, cmp};
 use std::cmp::Ordering;
-
-/// The value in a column, and null past the row's end.
-pub(crate) fn cell<'a>(row: &'a [Val], column: u32, null: &'a Val) -> &'a Val
-    requires { null.now ≡ Val.Null }
-    ensures { result.now ≡ cell row.now column }
-{
-    match row.get(column as usize) {
-        Some(value) => value,
-        None => null,
-    }
-}
 
 fn compare_cell(row: &[Val], column: u32, value: &Val) -> Ordering
     ensures { result ≡ val_cmp (cell row.now column) value.now }
@@ -107,19 +97,10 @@ pub(crate) fn find_row(table: &TableDef, rows: &[Row], key: &[Val]) -> Result<us
     }
 }
 
-pub(crate) fn is_null(value: &Val) -> bool
-    ensures { result ≡ is_null value.now }
-{
-    match value {
-        Val::Null => true,
-        _ => false,
-    }
-}
-
 fn alike(a: &Val, b: &Val) -> bool
     ensures { result ≡ (not (is_null a.now) && is_eq (val_cmp a.now b.now)) }
 {
-    if is_null(a) {
+    if a.is_null() {
         return false;
     }
     match cmp(a, b) {

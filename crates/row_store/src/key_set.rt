@@ -2,13 +2,12 @@ ghost use Rattle.std.specs.Prelude.{◌≡◌, true, ◌&&◌, ◌||◌, not, �
 ghost use Rattle.std.specs.Ordering.{is_eq};
 ghost use Rattle.std.specs.List.{list_any};
 ghost use Rattle.std.specs.BTreeSet.{contains};
-ghost use Rattle.data_model.specs.Rows.{cell};
+ghost use Rattle.scalar_val.specs.Values.{cell};
 ghost use Rattle.row_store.specs.declared.unique_key.UniqueKey.{UniqueKey};
 ghost use Rattle.row_store.specs.UniqueKeys.{key_order, has_value, keys_at, value_keys};
 
-use crate::finding::{cell, is_null};
 use crate::unique_key::UniqueKey;
-use scalar_val::{NoMemory, Val, cmp, copy_val};
+use scalar_val::{NoMemory, Val, cell, cmp, copy_val};
 use std::alloc::Global;
 use std::cmp::Ordering;
 use std::collections::BTreeSet;
@@ -22,7 +21,7 @@ fn push_key(
 ) -> Result<(), NoMemory>
     ensures { OnOk result (keys.new.items ≡ keys.old.items ++ value_keys column value.now) }
 {
-    if is_null(value) {
+    if value.is_null() {
         return Ok(());
     }
     let value = copy_val(alloc, value)?;

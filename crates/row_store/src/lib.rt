@@ -18,6 +18,7 @@ mod taken;
 mod tests;
 mod unique_key;
 
+pub use data_model::{Catalog, Column, SetCell, TableDef};
 pub use row::{Row, copy_row};
 pub use snapshot::{Scan, Snapshot, ValList};
 pub use stored::Stored;

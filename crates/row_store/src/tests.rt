@@ -10,6 +10,18 @@ use std::marker::Brand;
 use std::sync::ledger::{Blank, Ledger};
 use std::test::Fail;
 
+fn is_send_and_sync<T: Send + Sync + Drop>(_value: T) {}
+
+#[test]
+fn snapshots_may_be_shared_with_other_threads(rt: HostRuntime) -> Result<(), Fail> {
+    let alloc = rt.alloc();
+    let catalog = Catalog {
+        tables: List::new(alloc),
+    };
+    is_send_and_sync(Snapshot::new(alloc, &catalog)?);
+    Ok(())
+}
+
 pub(crate) fn one<T: Drop>(alloc: Global, item: T) -> Result<List<T>, NoMemory>
     ensures { IfOk result (λ list. list ≡ item ∷ []) }
 {

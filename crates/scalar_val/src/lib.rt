@@ -9,10 +9,12 @@ mod steps;
 mod tests;
 mod text;
 mod val;
+mod word;
 
 pub use json_text::{write_json, write_quoted};
 pub use list::List;
 pub use spelling::{ReadFault, fit_scalar, read_text};
 pub use steps::Steps;
 pub use text::{Bytes, NoMemory, Str};
-pub use val::{Kind, Val, cmp, copy_val, order_laws};
+pub use val::{Kind, Val, cell, cmp, copy_val, order_laws, same_kind};
+pub use word::Word;

@@ -1,6 +1,7 @@
 ghost use Rattle.std.specs.Prelude.{◌≡◌, [], ◌∷◌, ◌++◌, ◌<◌, ◌≤◌, ◌↔◌, length, insert, remove, slice_get, slice_set, Some, IsTrue, IfErr, OnOk, OnErr, OnSome};
 ghost use Rattle.std.specs.Option.{option_copied};
 
+use crate::text::NoMemory;
 use std::alloc::Global;
 use std::marker::Model;
 
@@ -113,6 +114,19 @@ impl<T> List<T> {
         match self.items.push(item) {
             Ok(()) => Ok(()),
             Err(refused) => Err(refused.value),
+        }
+    }
+
+    /// Adds an item at the end. Without memory the item is dropped, and the list stays as it was.
+    pub fn add(&mut self, item: T) -> Result<(), NoMemory>
+    where
+        T: Drop,
+        ensures ok { OnOk result (self.new ≡ self.old ++ item ∷ []) }
+        ensures err { OnErr result (self.new ≡ self.old) }
+    {
+        match self.push(item) {
+            Ok(()) => Ok(()),
+            Err(_refused) => Err(NoMemory),
         }
     }
 }

@@ -17,7 +17,8 @@ pub enum ReadFault {
 
 /// The value of a kind that a text spells. A boolean is `true` or `false`. An int or a bigint is an optional `-` and 1 to
 /// 19 decimal digits, and is within 32 or 64 bits. Every text spells itself. An identifier is in any form that `uuid`
-/// reads: 32 hexadecimal digits in either case, alone, hyphenated, and hyphenated in braces or after `urn:uuid:`.
+/// reads: 32 hexadecimal digits, alone, hyphenated, and hyphenated in braces or after `urn:uuid:` (RFC 9562, section 4);
+/// the digits and this prefix are free in case.
 /// `BadValue` comes exactly where the text is none of these; memory is taken for a text alone.
 pub fn read_text(alloc: Global, kind: Kind, text: &str) -> Result<Val, ReadFault>
     ensures ok { IfOk result (λ val. spelled kind text.now ≡ Some val) }

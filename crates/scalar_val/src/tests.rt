@@ -1,8 +1,22 @@
 use crate::{
-    Kind, NoMemory, ReadFault, Str, Val, cmp, copy_val, fit_scalar, read_text, write_json,
+    Bytes, Kind, List, NoMemory, ReadFault, Str, Val, cmp, copy_val, fit_scalar, read_text,
+    write_json,
 };
 use std::alloc::Global;
 use std::cmp::Ordering;
+
+fn is_send_and_sync<T: Send + Sync + Drop>(_value: T) {}
+
+#[test]
+fn values_and_lists_of_them_may_be_shared_with_other_threads(
+    rt: HostRuntime,
+) -> Result<(), NoMemory> {
+    let alloc = rt.alloc();
+    is_send_and_sync(Str::of(alloc, "a")?);
+    is_send_and_sync(Bytes::of(Vec::new(alloc)));
+    is_send_and_sync(List::<Val>::new(alloc));
+    Ok(())
+}
 
 /// Appends the JSON text of what was read, or `bad`.
 fn show(alloc: Global, read: Result<Val, ReadFault>, out: &mut Vec<u8>) -> Result<(), NoMemory> {

@@ -1,6 +1,7 @@
 ghost use Rattle.std.specs.Prelude.{◌≡◌, IfOk};
 ghost use Rattle.std.specs.Cmp.{IsTotalOrder};
 ghost use Rattle.scalar_val.specs.ValOrder.{rank_of, val_cmp};
+ghost use Rattle.scalar_val.specs.Values.{cell, is_null, kind_rank, same_kind};
 
 use crate::text::{NoMemory, Str};
 use std::alloc::Global;
@@ -25,6 +26,47 @@ pub enum Val {
     Big(i64),
     Text(Str),
     Uuid(u128),
+}
+
+impl Val {
+    pub fn is_null(&self) -> bool
+        ensures { result ≡ is_null self.now }
+    {
+        match self {
+            Val::Null => true,
+            _ => false,
+        }
+    }
+}
+
+fn kind_rank(kind: Kind) -> u8
+    ensures { result ≡ kind_rank kind }
+{
+    match kind {
+        Kind::Bool => 0,
+        Kind::Int => 1,
+        Kind::Big => 2,
+        Kind::Text => 3,
+        Kind::Uuid => 4,
+    }
+}
+
+/// Whether two kinds are one.
+pub fn same_kind(a: Kind, b: Kind) -> bool
+    ensures { result ≡ same_kind a b }
+{
+    kind_rank(a) == kind_rank(b)
+}
+
+/// The value at a place of a row, from 0, and null past its end, where `null` is handed back.
+pub fn cell<'a>(row: &'a [Val], place: u32, null: &'a Val) -> &'a Val
+    requires { null.now ≡ Val.Null }
+    ensures { result.now ≡ cell row.now place }
+{
+    match row.get(place as usize) {
+        Some(value) => value,
+        None => null,
+    }
 }
 
 /// The order of values: null first, then by kind, then within the kind: false before true, numbers by size, texts by

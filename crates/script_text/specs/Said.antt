@@ -3,8 +3,8 @@ use Rattle.std.specs.Prelude.{◌≡◌, ℕ, List}
 use Rattle.model.specs.Script as script
 use Rattle.script_text.specs.declared.line.Line.{Line}
 use Rattle.script_text.specs.declared.line.Line.TheVariants as line
-use Rattle.script_text.specs.declared.transcript.ScriptReason.{ScriptReason}
-use Rattle.script_text.specs.declared.transcript.ScriptReason.TheVariants as reason
+use Rattle.model.specs.declared.script.ScriptReason.{ScriptReason}
+use Rattle.model.specs.declared.script.ScriptReason.TheVariants as reason
 
 abbrev pub line_of : Line → script.Line
 line_of line.Passed = script.Passed
@@ -22,17 +22,7 @@ line_of (line.Drain conn) = script.Drain conn
 line_of line.Report = script.Report
 line_of line.Poll = script.Poll
 
-abbrev pub reason_of : ScriptReason → script.Reason
-reason_of reason.Cut = script.Cut
-reason_of reason.Size = script.Size
-reason_of (reason.Metadata fault) = script.BadMetadata fault
-reason_of reason.NotEvent = script.NotEvent
-reason_of reason.Transaction = script.NotTransaction
-reason_of reason.Known = script.Known
-reason_of reason.Unknown = script.Unknown
-reason_of reason.Unbuilt = script.Unbuilt
-
 -- the one word of a reason, but for a fault of the metadata, which has two
 abbrev pub IsWordOf : ScriptReason → List ℕ → Type 0
 IsWordOf (reason.Metadata fault) word = Unit {0}
-IsWordOf r word = word ≡ script.reason_text (reason_of r)
+IsWordOf r word = word ≡ script.reason_text r

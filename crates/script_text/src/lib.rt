@@ -9,7 +9,8 @@ mod tests;
 mod transcript;
 
 pub use line::{Line, read_line};
+pub use model::ScriptReason;
 pub use transcript::{
-    ScriptReason, write_commit, write_fault, write_job, write_open, write_published, write_recv,
-    write_refused, write_tick,
+    write_commit, write_fault, write_job, write_open, write_published, write_recv, write_refused,
+    write_tick,
 };

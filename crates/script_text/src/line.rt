@@ -134,7 +134,8 @@ fn read_word(text: &[u8]) -> Option<Line<'_>>
 
 /// What stands behind the start of a text, where it begins so.
 fn behind<'a>(text: &'a str, start: &str) -> Option<&'a str>
-    ensures { MatchOption result (starts_with ◌==◌ text.now start.now ≡ false) (λ rest. (starts_with ◌==◌ text.now start.now ≡ true) × (rest.now ≡ drop (length start.now) text.now)) }
+    ensures { MatchOption result (starts_with ◌==◌ text.now start.now ≡ false)
+        (λ rest. (starts_with ◌==◌ text.now start.now ≡ true) × (rest.now ≡ drop (length start.now) text.now)) }
 {
     text.strip_prefix(start)
 }

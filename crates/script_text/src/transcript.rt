@@ -1,4 +1,4 @@
-ghost use Rattle.std.specs.Prelude.{◌≡◌, ◌++◌, ◌∷◌, [], Some, List, length, map, OnOk, decimal};
+ghost use Rattle.std.specs.Prelude.{◌≡◌, ◌++◌, ◌∷◌, [], Some, List, length, OnOk, decimal};
 ghost use Rattle.std.specs.List.{flat_map};
 ghost use Rattle.data_model.specs.declared.transaction.TxChange.{TxChange};
 ghost use Rattle.model.specs.Messages.{Message};
@@ -6,41 +6,19 @@ ghost use Rattle.model.specs.State as state;
 ghost use Rattle.model.specs.Transcript.{numbered, queued_line, refusal_name};
 ghost use Rattle.model.specs.Transcript as transcript;
 ghost use Rattle.model.specs.Script.{fault_line, fault_name, reason_text};
-ghost use Rattle.model.specs.Shown.{queued_of};
-ghost use Rattle.script_text.specs.Said.{reason_of, IsWordOf};
+ghost use Rattle.script_text.specs.Said.{IsWordOf};
 ghost use Rattle.script_text.specs.Told.{Tells};
 
 use data_model::{Reason, TxFault};
 use itoa::Buffer;
-use model::{Queued, QueuedList};
+use model::{Queued, QueuedList, ScriptReason};
 use role_model::MetaFault;
 use scalar_val::NoMemory;
-
-/// Why a script ends before its end.
-#[derive(Clone, Copy, Debug, PartialEq, Eq)]
-pub enum ScriptReason {
-    /// It ends within a line, or before the line `---` that ends the metadata.
-    Cut,
-    /// It has more bytes than a script may have.
-    Size,
-    /// The metadata has this fault, which is its first one.
-    Metadata(MetaFault),
-    /// The line is none of the forms of a script, or isn't UTF-8.
-    NotEvent,
-    /// The text of a `commit` is no transaction.
-    Transaction,
-    /// `open` of a connection that is known.
-    Known,
-    /// An event on a connection that isn't known.
-    Unknown,
-    /// The line is of a form that isn't built so far.
-    Unbuilt,
-}
 
 /// Appends the transcript of `open C`. For want of memory a part of it may be appended; so it is with each function
 /// here.
 pub fn write_open(out: &mut Vec<u8>, conn: u32, queued: &QueuedList) -> Result<(), NoMemory>
-    ensures { OnOk result (Tells (state.Connect conn) state.Did (map queued_of queued.now) out.old.items out.new.items) }
+    ensures { OnOk result (Tells (state.Connect conn) state.Did queued.now out.old.items out.new.items) }
 {
     write_number(out, b"open", u64::from(conn))?;
     write_queued(out, queued.as_slice())
@@ -48,7 +26,8 @@ pub fn write_open(out: &mut Vec<u8>, conn: u32, queued: &QueuedList) -> Result<(
 
 /// Appends the transcript of `recv C TEXT`, with the texts that were queued.
 pub fn write_recv(out: &mut Vec<u8>, conn: u32, queued: &QueuedList) -> Result<(), NoMemory>
-    ensures { OnOk result ((message : Message) → Tells (state.Receive conn message) state.Did (map queued_of queued.now) out.old.items out.new.items) }
+    ensures { OnOk result ((message : Message) →
+        Tells (state.Receive conn message) state.Did queued.now out.old.items out.new.items) }
 {
     write_number(out, b"recv", u64::from(conn))?;
     write_queued(out, queued.as_slice())
@@ -56,7 +35,8 @@ pub fn write_recv(out: &mut Vec<u8>, conn: u32, queued: &QueuedList) -> Result<(
 
 /// Appends the transcript of an accepted commit, with the new version.
 pub fn write_commit(out: &mut Vec<u8>, version: u64) -> Result<(), NoMemory>
-    ensures { OnOk result ((tx : List TxChange) → Tells (state.Commit tx) (state.Committed version) [] out.old.items out.new.items) }
+    ensures { OnOk result ((tx : List TxChange) →
+        Tells (state.Commit tx) (state.Committed version) [] out.old.items out.new.items) }
 {
     write_number(out, b"commit", version)?;
     end_line(out)
@@ -64,7 +44,8 @@ pub fn write_commit(out: &mut Vec<u8>, version: u64) -> Result<(), NoMemory>
 
 /// Appends the transcript of a refused commit: the number of the change that was refused, from 1, and the reason's name.
 pub fn write_refused(out: &mut Vec<u8>, fault: TxFault) -> Result<(), NoMemory>
-    ensures { OnOk result ((tx : List TxChange) → Tells (state.Commit tx) (state.Declined fault) [] out.old.items out.new.items) }
+    ensures { OnOk result ((tx : List TxChange) →
+        Tells (state.Commit tx) (state.Declined fault) [] out.old.items out.new.items) }
 {
     write_number(out, b"refused", fault.change)?;
     out.push(b' ')?;
@@ -103,7 +84,9 @@ pub fn write_job(
     cohorts: u64,
     members: u64,
 ) -> Result<(), NoMemory>
-    ensures { OnOk result ((job : state.Job) → job.number ≡ number → job.version ≡ version → transcript.cohorts job.members ≡ cohorts → length job.members ≡ members → Tells state.Take (state.Taken job) [] out.old.items out.new.items) }
+    ensures { OnOk result ((job : state.Job) → job.number ≡ number → job.version ≡ version →
+        transcript.cohorts job.members ≡ cohorts → length job.members ≡ members →
+        Tells state.Take (state.Taken job) [] out.old.items out.new.items) }
 {
     write_number(out, b"job", number)?;
     write_number(out, b" version", version)?;
@@ -119,7 +102,8 @@ pub fn write_published(
     version: u64,
     queued: &QueuedList,
 ) -> Result<(), NoMemory>
-    ensures { OnOk result (Tells (state.Publish number) (state.Published version) (map queued_of queued.now) out.old.items out.new.items) }
+    ensures { OnOk result (Tells (state.Publish number) (state.Published version) queued.now out.old.items
+        out.new.items) }
 {
     write_number(out, b"published", number)?;
     write_number(out, b" version", version)?;
@@ -128,7 +112,7 @@ pub fn write_published(
 
 /// Appends the line that ends the transcript of a script at fault: the line's number, from 1, and the reason.
 pub fn write_fault(out: &mut Vec<u8>, line: u64, reason: ScriptReason) -> Result<(), NoMemory>
-    ensures { OnOk result (out.new.items ≡ out.old.items ++ fault_line (Some (line, reason_of reason))) }
+    ensures { OnOk result (out.new.items ≡ out.old.items ++ fault_line (Some (line, reason))) }
 {
     write_number(out, b"fault", line)?;
     out.push(b' ')?;
@@ -137,7 +121,7 @@ pub fn write_fault(out: &mut Vec<u8>, line: u64, reason: ScriptReason) -> Result
 }
 
 fn write_reason(out: &mut Vec<u8>, reason: ScriptReason) -> Result<(), NoMemory>
-    ensures { OnOk result (out.new.items ≡ out.old.items ++ reason_text (reason_of reason)) }
+    ensures { OnOk result (out.new.items ≡ out.old.items ++ reason_text reason) }
 {
     if let ScriptReason::Metadata(fault) = reason {
         out.extend_from_slice(b"metadata ")?;
@@ -202,7 +186,7 @@ fn end_line(out: &mut Vec<u8>) -> Result<(), NoMemory>
 
 /// The end of a line, and then a line for each text.
 fn write_queued(out: &mut Vec<u8>, queued: &[Queued]) -> Result<(), NoMemory>
-    ensures { OnOk result (out.new.items ≡ out.old.items ++ 10 ∷ flat_map queued_line (map queued_of queued.now)) }
+    ensures { OnOk result (out.new.items ≡ out.old.items ++ 10 ∷ flat_map queued_line queued.now) }
 {
     end_line(out)?;
     for one in queued {
@@ -212,7 +196,7 @@ fn write_queued(out: &mut Vec<u8>, queued: &[Queued]) -> Result<(), NoMemory>
 }
 
 fn write_one(out: &mut Vec<u8>, one: &Queued) -> Result<(), NoMemory>
-    ensures { OnOk result (out.new.items ≡ out.old.items ++ queued_line (queued_of one.now)) }
+    ensures { OnOk result (out.new.items ≡ out.old.items ++ queued_line one.now) }
 {
     write_number(out, b">", u64::from(one.conn))?;
     out.push(b' ')?;

@@ -70,7 +70,8 @@ fn unauthorized(alloc: Global, role: Option<&str>) -> Result<Identity, NoMemory>
 /// whose values aren't strings are ignored. A request is trusted where no secret is configured, or the header
 /// `x-hasura-admin-secret` equals it. A trusted request has the role of the header `x-hasura-role`, by default `admin`,
 /// and as session variables all headers that begin with `x-hasura-` but the secret. Any other request has the
-/// unauthorized role and no session variables, and is forbidden exactly where no such role is configured.
+/// unauthorized role and no session variables, and is forbidden exactly where no such role is configured. `NoMemory`
+/// where memory is refused.
 pub fn identify(alloc: Global, meta: &Meta, payload: Option<&Value>) -> Result<Identity, NoMemory>
     ensures { IfOk result (λ identity. identity ≡ identity_of meta.now (option_map (λ v. view v.now) payload.entry)) }
 {

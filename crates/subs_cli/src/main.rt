@@ -5,6 +5,7 @@ ghost use Rattle.std.specs.Prelude.{◌≡◌};
 
 use outside::{StdSink, StdSource};
 use scalar_val::Steps;
+use std::io::ErrorKind;
 use std::marker::Brand;
 use std::process::ExitCode;
 use std::sync::ledger::{Blank, Ledger};
@@ -17,11 +18,15 @@ const NO_MEMORY: u8 = 4;
 fn main(rt: HostRuntime) -> ExitCode {
     match words(&rt) {
         Ok(words) => ExitCode::from(run::<Brand>(&rt, words.as_slice(), Blank::new(1))),
-        Err(_) => ExitCode::from(NO_MEMORY),
+        // No command has a word that isn't UTF-8, and none has no word.
+        Err(error) => match error.kind() {
+            ErrorKind::InvalidData => ExitCode::from(run::<Brand>(&rt, &[], Blank::new(1))),
+            _ => ExitCode::from(NO_MEMORY),
+        },
     }
 }
 
-/// The words after the program's name.
+/// The words after the program's name. One that isn't UTF-8 is an error of the kind `InvalidData`.
 fn words(rt: &HostRuntime) -> io::Result<Vec<String>> {
     let mut words = Vec::new(rt.alloc());
     for word in env::args(rt)?.skip(1) {

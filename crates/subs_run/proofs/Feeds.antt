@@ -6,7 +6,6 @@ use Rattle.model.specs.Script.{Ran}
 use Rattle.subs_run.specs.declared.reader.Reader.{Reader}
 use Rattle.subs_run.specs.declared.reader.Fed.{Fed}
 use Rattle.subs_run.specs.declared.reader.Fed.TheVariants as fed
-use Rattle.script_text.specs.Said.{reason_of}
 use Rattle.subs_run.specs.Runs.{ran}
 use Rattle.subs_run.specs.Written.{WritesOn}
 use Rattle.subs_run.specs.Standing.{IsAfter, HasRoom, FedAs, FedAll}
@@ -16,13 +15,13 @@ use Rattle.subs_run.proofs.Written.{on_then, front_then, front_longer}
 -- an end that isn't the whole piece holds of a longer text too
 pub fed_longer : (end : Fed) (reader : Reader) (seen more : List ℕ) → end ≢ fed.Done → FedAs end reader seen → FedAs end reader (seen ++ more)
 fed_longer fed.Done reader seen more ne is = absurd (ne refl)
-fed_longer (fed.Faulty reason) reader seen more ne is = (ap (λ (r : Ran). r.standing) (ran-fault seen more (reader.taken + 1) (reason_of reason) is.0) ∙ is.0, omega (arith, is.1, length-append seen more))
+fed_longer (fed.Faulty reason) reader seen more ne is = (ap (λ (r : Ran). r.standing) (ran-fault seen more (reader.lines_read + 1) reason is.0) ∙ is.0, omega (arith, is.1, length-append seen more))
 fed_longer fed.SinkFailed reader seen more ne is = tt
 fed_longer fed.NoMemory reader seen more ne is = tt
 
 pub all_longer : (end : Fed) (reader : Reader) (old new : Option (List ℕ)) (before seen more : List ℕ) → end ≢ fed.Done → FedAs end reader seen → FedAll end old new before (ran seen).text → FedAll end old new before (ran (seen ++ more)).text
 all_longer fed.Done reader old new before seen more ne is all = absurd (ne refl)
-all_longer (fed.Faulty reason) reader old new before seen more ne is all = subst (λ (r : Ran). WritesOn old new before r.text) (sym (ran-fault seen more (reader.taken + 1) (reason_of reason) is.0)) all
+all_longer (fed.Faulty reason) reader old new before seen more ne is all = subst (λ (r : Ran). WritesOn old new before r.text) (sym (ran-fault seen more (reader.lines_read + 1) reason is.0)) all
 all_longer fed.SinkFailed reader old new before seen more ne is all = let l = ran-longer seen more in front_longer old new before (ran seen).text l.0 (ran (seen ++ more)).text l.1 all
 all_longer fed.NoMemory reader old new before seen more ne is all = let l = ran-longer seen more in front_longer old new before (ran seen).text l.0 (ran (seen ++ more)).text l.1 all
 

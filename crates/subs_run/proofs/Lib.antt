@@ -8,5 +8,5 @@ pub mod Outcomes
 pub mod Polls
 pub mod Rans
 pub mod Readers
-pub mod Turns
+pub mod Pieces
 pub mod Written

@@ -4,12 +4,13 @@ use Rattle.std.specs.Prelude.{nat_lt}
 use Rattle.std.proofs.Math.Seq.{take-append-add}
 use Rattle.std.proofs.lemmas.Bool.{lt-ltb, le-ltb}
 use Rattle.std.proofs.lemmas.List.{take_all, take-append-le}
-use Rattle.model.specs.Script.{lines, Reading, Standing, At, Fault, Reason, Size, Ran, limit, ended, fault_at_end, fault_line, outcome, output}
+use Rattle.model.specs.Script.{lines, Reading, Standing, At, Fault, Ran, limit, ended, fault_at_end, fault_line, outcome, output}
+use Rattle.model.specs.declared.script.ScriptReason.{ScriptReason}
+use Rattle.model.specs.declared.script.ScriptReason.TheVariants.{Size}
 use Rattle.subs_run.specs.declared.answer.RunEnd.{RunEnd}
 use Rattle.subs_run.specs.declared.answer.RunEnd.TheVariants as run_end
-use Rattle.script_text.specs.Said.{reason_of}
 use Rattle.subs_run.specs.Runs.{ran, EndsAs, IsToldWhole}
-use Rattle.subs_run.specs.Turns.{ClosesAs, EndsOn}
+use Rattle.subs_run.specs.Pieces.{ClosesAs, EndsOn}
 use Rattle.subs_run.specs.Written.{WritesOn, WritesFrontOn}
 use Rattle.subs_run.proofs.Rans.{ran-fault, ran-longer}
 use Rattle.subs_run.proofs.Written.{on_all, on_front, on_then, front_then, front_longer}
@@ -28,15 +29,15 @@ output-longer a rest h =
     (l.0 ++ fault, ap (λ (xs : List ℕ). (ran xs).text ++ fault) (take_limit a rest h) ∙ (ap (λ (xs : List ℕ). xs ++ fault) l.1 ∙ append_assoc (ran a).text l.0 fault))
 
 -- what a script ends with, where this is known of it
-pub record HasOutcome (all text : List ℕ) (fault : Option (ℕ × Reason)) : Type 0 where
+pub record HasOutcome (all text : List ℕ) (fault : Option (ℕ × ScriptReason)) : Type 0 where
   pub text_is : (outcome all).text ≡ text
   pub fault_is : (outcome all).fault ≡ fault
 
-at_fault : (too_long : Bool) (number : ℕ) (rest : List ℕ) (s : Standing) (line : ℕ) (reason : Reason) → s ≡ Fault line reason → fault_at_end too_long number rest s ≡ Some (line, reason)
+at_fault : (too_long : Bool) (number : ℕ) (rest : List ℕ) (s : Standing) (line : ℕ) (reason : ScriptReason) → s ≡ Fault line reason → fault_at_end too_long number rest s ≡ Some (line, reason)
 at_fault too_long number rest s line reason e = ap (λ (t : Standing). fault_at_end too_long number rest t) e
 
 -- a line of the front is at fault
-pub outcome-fault : (a rest : List ℕ) (line : ℕ) (reason : Reason) → length a ≤ limit → (ran a).standing ≡ Fault line reason → HasOutcome (a ++ rest) (ran a).text (Some (line, reason))
+pub outcome-fault : (a rest : List ℕ) (line : ℕ) (reason : ScriptReason) → length a ≤ limit → (ran a).standing ≡ Fault line reason → HasOutcome (a ++ rest) (ran a).text (Some (line, reason))
 outcome-fault a rest line reason h e =
     let more = take (limit - length a) rest in
     let same : ran (take limit (a ++ rest)) ≡ ran a = ap ran (take_limit a rest h) ∙ ran-fault a more line reason e in
@@ -73,18 +74,18 @@ outcome-size a rest reading h some e =
     let parts = lines (take limit (a ++ rest)) in
     record {
       text_is = ap (λ (xs : List ℕ). (ran xs).text) same;
-      fault_is = long_at (nat_lt limit (length (a ++ rest))) (ran (take limit (a ++ rest))).standing (length parts.0 + 1) parts.1 reading long (ap (λ (xs : List ℕ). (ran xs).standing) same ∙ e) ∙ ap (λ (xs : List ℕ). let f : Option (ℕ × Reason) = Some (length (lines xs).0 + 1, Size) in f) same;
+      fault_is = long_at (nat_lt limit (length (a ++ rest))) (ran (take limit (a ++ rest))).standing (length parts.0 + 1) parts.1 reading long (ap (λ (xs : List ℕ). (ran xs).standing) same ∙ e) ∙ ap (λ (xs : List ℕ). let f : Option (ℕ × ScriptReason) = Some (length (lines xs).0 + 1, Size) in f) same;
     }
 
 -- What is written at the end
 
-output_is : (all text : List ℕ) (fault : Option (ℕ × Reason)) → HasOutcome all text fault → output all ≡ text ++ fault_line fault
-output_is all text fault o = ap (λ (xs : List ℕ). xs ++ fault_line (outcome all).fault) o.text_is ∙ ap (λ (f : Option (ℕ × Reason)). text ++ fault_line f) o.fault_is
+output_is : (all text : List ℕ) (fault : Option (ℕ × ScriptReason)) → HasOutcome all text fault → output all ≡ text ++ fault_line fault
+output_is all text fault o = ap (λ (xs : List ℕ). xs ++ fault_line (outcome all).fault) o.text_is ∙ ap (λ (f : Option (ℕ × ScriptReason)). text ++ fault_line f) o.fault_is
 
-without_fault : (all text : List ℕ) (fault : Option (ℕ × Reason)) → fault ≡ None → HasOutcome all text fault → output all ≡ text
-without_fault all text fault none o = output_is all text fault o ∙ (ap (λ (f : Option (ℕ × Reason)). text ++ fault_line f) none ∙ append-nil text)
+without_fault : (all text : List ℕ) (fault : Option (ℕ × ScriptReason)) → fault ≡ None → HasOutcome all text fault → output all ≡ text
+without_fault all text fault none o = output_is all text fault o ∙ (ap (λ (f : Option (ℕ × ScriptReason)). text ++ fault_line f) none ∙ append-nil text)
 
-pub ends_on : (end : RunEnd) (old new : Option (List ℕ)) (text all : List ℕ) (fault : Option (ℕ × Reason)) → ClosesAs end old new fault → HasOutcome all text fault → EndsOn end old new text all
+pub ends_on : (end : RunEnd) (old new : Option (List ℕ)) (text all : List ℕ) (fault : Option (ℕ × ScriptReason)) → ClosesAs end old new fault → HasOutcome all text fault → EndsOn end old new text all
 ends_on run_end.Done old new text all fault closes o =
     (o.fault_is ∙ closes.0, λ w told. closes.1 ∙ (told ∙ ap (λ (xs : List ℕ). Some (w ++ xs)) (sym (without_fault all text fault closes.0 o))))
 ends_on (run_end.ScriptFault line reason) old new text all fault closes o = (o.fault_is ∙ closes.0, on_all old new text (output all) (fault_line fault) closes.1 (output_is all text fault o))
@@ -125,13 +126,13 @@ ends_front run_end.SourceFault old new before all h e = absurd (elim h [ inl e �
 ends_front run_end.SinkFault old new before all h e = e
 ends_front run_end.NoMemory old new before all h e = e
 
-pub none_some : (o : Option (ℕ × Reason)) (x : ℕ × Reason) → o ≡ None → o ≡ Some x → ⊥
+pub none_some : (o : Option (ℕ × ScriptReason)) (x : ℕ × ScriptReason) → o ≡ None → o ≡ Some x → ⊥
 none_some o x e f = let g : None ≡ Some x = sym e ∙ f in cc
 
 -- a script without a fault, where nothing else fails
-pub answered_by : (end : RunEnd) (fault : Option (ℕ × Reason)) → EndsAs end fault → fault ≡ None → end ≢ run_end.SourceFault → end ≢ run_end.SinkFault → (end ≡ run_end.Done) ⊎ (end ≡ run_end.NoMemory)
+pub answered_by : (end : RunEnd) (fault : Option (ℕ × ScriptReason)) → EndsAs end fault → fault ≡ None → end ≢ run_end.SourceFault → end ≢ run_end.SinkFault → (end ≡ run_end.Done) ⊎ (end ≡ run_end.NoMemory)
 answered_by run_end.Done fault e none source sink = inl refl
-answered_by (run_end.ScriptFault line reason) fault e none source sink = absurd (none_some fault (line, reason_of reason) none e)
+answered_by (run_end.ScriptFault line reason) fault e none source sink = absurd (none_some fault (line, reason) none e)
 answered_by run_end.SourceFault fault e none source sink = absurd (source refl)
 answered_by run_end.SinkFault fault e none source sink = absurd (sink refl)
 answered_by run_end.NoMemory fault e none source sink = inr refl

@@ -13,13 +13,14 @@ use Rattle.model.specs.Run.{happens, run}
 use Rattle.model.specs.Transcript.{transcript, goes, goes_on, Reached, take_and_publish, publish_due, poll}
 use Rattle.model.specs.Script as script
 use Rattle.model.specs.Script.{acts}
+use Rattle.model.specs.declared.queued.Queued.{Queued}
 use Rattle.hub.specs.State.{Kept}
 use Rattle.hub.specs.Jobs.{AnswersOf}
 use Rattle.hub.specs.declared.job.Answers.{Answers}
 use Rattle.hub.specs.declared.job.Outcome.{Outcome}
 use Rattle.hub.specs.Stands.{StandsFor, Happened, Does}
 use Rattle.script_text.specs.Told.{Tells}
-use Rattle.subs_run.specs.declared.taken.Taken.TheVariants as taken
+use Rattle.subs_run.specs.declared.line_result.LineResult.TheVariants as line_result
 use Rattle.subs_run.specs.Events.{Reaches, TookOne, LineRan}
 use Rattle.subs_run.proofs.Machine.{subs, subs-take, subs-publish, due-tick}
 use Rattle.subs_run.proofs.Events.{state_after, told_by, kept_subs}
@@ -29,8 +30,8 @@ use Rattle.subs_run.proofs.Events.{state_after, told_by, kept_subs}
 pub kept_due : (k : Kept) (h : List Event) → StandsFor k h → (run k.meta h).due ≡ k.due
 kept_due k h st = ap (λ (s : State). s.due) st.state
 
-pub kept_taken : (k : Kept) (h : List Event) → StandsFor k h → (run k.meta h).taken ≡ k.taken
-kept_taken k h st = ap (λ (s : State). s.taken) st.state
+pub kept_taken : (k : Kept) (h : List Event) → StandsFor k h → (run k.meta h).jobs_made ≡ k.jobs_made
+kept_taken k h st = ap (λ (s : State). s.jobs_made) st.state
 
 -- Nobody was due, and so nothing changed
 nobody : (meta : Metadata) (s : State) (o : Option Subscription) → (take_from meta s o).reply ≡ Nobody → (take_from meta s o).state ≡ s
@@ -68,9 +69,9 @@ found n jobs job e =
 same_number : (n : ℕ) → (n == n) ≡ true
 same_number n = grind (arith, nat_tests)
 
-opened : (meta : Metadata) (s : State) (o : Option Subscription) (j : Job) → (take_from meta s o).reply ≡ Taken j → (x : Job) × (job_at (take_from meta s o).state.taken (take_from meta s o).state.jobs ≡ Some x)
+opened : (meta : Metadata) (s : State) (o : Option Subscription) (j : Job) → (take_from meta s o).reply ≡ Taken j → (x : Job) × (job_at (take_from meta s o).state.jobs_made (take_from meta s o).state.jobs ≡ Some x)
 opened meta s None j e = absurd (cc)
-opened meta s (Some first) j e = found (s.taken + 1) s.jobs (next_job s (members_of (batch meta.batch_size s.due s.subscriptions first) s.subscriptions)) (same_number (s.taken + 1))
+opened meta s (Some first) j e = found (s.jobs_made + 1) s.jobs (next_job s (members_of (batch meta.batch_size s.due s.subscriptions first) s.subscriptions)) (same_number (s.jobs_made + 1))
 
 published_some : (meta : Metadata) (n : ℕ) (s : State) (x : Job) → (publish meta n s (Some x)).reply ≡ NotOpen → ⊥
 published_some meta n s x e = cc
@@ -79,12 +80,12 @@ published_some meta n s x e = cc
 pub after_take : (k k1 : Kept) (h : List Event) (j : Job) → Does k k1 Take (Taken j) [] → StandsFor k h → (happens k.meta (run k.meta h) Take).state ≡ run k1.meta (h ++ Take ∷ [])
 after_take k k1 h j does st = state_after k k1 h Take (Taken j) [] does.meta (does.happened h st)
 
-taken_after : (k k1 : Kept) (h : List Event) (j : Job) (n : ℕ) → Does k k1 Take (Taken j) [] → StandsFor k h → k1.taken ≡ n → (happens k.meta (run k.meta h) Take).state.taken ≡ n
+taken_after : (k k1 : Kept) (h : List Event) (j : Job) (n : ℕ) → Does k k1 Take (Taken j) [] → StandsFor k h → k1.jobs_made ≡ n → (happens k.meta (run k.meta h) Take).state.jobs_made ≡ n
 taken_after k k1 h j n does st e =
     let hp : Happened k k1 h Take (Taken j) [] = does.happened h st in
-    ap (λ (s : State). s.taken) (after_take k k1 h j does st) ∙ (kept_taken k1 (h ++ Take ∷ []) hp.stands ∙ e)
+    ap (λ (s : State). s.jobs_made) (after_take k k1 h j does st) ∙ (kept_taken k1 (h ++ Take ∷ []) hp.stands ∙ e)
 
-pub not_open : (k k1 k2 : Kept) (h : List Event) (j : Job) (n : ℕ) → Does k k1 Take (Taken j) [] → k1.taken ≡ n → Does k1 k2 (Publish n) NotOpen [] → StandsFor k h → ⊥
+pub not_open : (k k1 k2 : Kept) (h : List Event) (j : Job) (n : ℕ) → Does k k1 Take (Taken j) [] → k1.jobs_made ≡ n → Does k1 k2 (Publish n) NotOpen [] → StandsFor k h → ⊥
 not_open k k1 k2 h j n does number does2 st =
     let hp : Happened k k1 h Take (Taken j) [] = does.happened h st in
     let s : State = run k.meta h in
@@ -97,13 +98,13 @@ not_open k k1 k2 h j n does number does2 st =
 abbrev goes_publish : Metadata → State → ℕ → Reached
 goes_publish meta t n = goes (Publish n) (happens meta t (Publish n))
 
-pub took_some : (k k1 k2 : Kept) (h : List Event) (j : Job) (n v : ℕ) (queued : List machine.Queued) (before mid after : List ℕ) → Does k k1 Take (Taken j) [] → k1.taken ≡ n → length k1.due < length k.due → k2.meta ≡ k1.meta → Happened k1 k2 (h ++ Take ∷ []) (Publish n) (Published v) queued → Tells Take (Taken j) [] before mid → Tells (Publish n) (Published v) queued mid after → StandsFor k h → TookOne true k k2 h before after
+pub took_some : (k k1 k2 : Kept) (h : List Event) (j : Job) (n v : ℕ) (queued : List Queued) (before mid after : List ℕ) → Does k k1 Take (Taken j) [] → k1.jobs_made ≡ n → length k1.due < length k.due → k2.meta ≡ k1.meta → Happened k1 k2 (h ++ Take ∷ []) (Publish n) (Published v) queued → Tells Take (Taken j) [] before mid → Tells (Publish n) (Published v) queued mid after → StandsFor k h → TookOne true k k2 h before after
 took_some k k1 k2 h j n v queued before mid after does number fewer same hp2 tells tells2 st =
     let hp : Happened k k1 h Take (Taken j) [] = does.happened h st in
     let s : State = run k.meta h in
     let t : State = (happens k.meta s Take).state in
     let h1 : List Event = h ++ Take ∷ [] in
-    let second : goes_publish k.meta t t.taken ≡ goes_publish k1.meta (run k1.meta h1) n = ap (goes_publish k.meta t) (taken_after k k1 h j n does st number) ∙ (ap (λ (x : State). goes_publish k.meta x n) (after_take k k1 h j does st) ∙ ap (λ (m : Metadata). goes_publish m (run k1.meta h1) n) (sym does.meta)) in
+    let second : goes_publish k.meta t t.jobs_made ≡ goes_publish k1.meta (run k1.meta h1) n = ap (goes_publish k.meta t) (taken_after k k1 h j n does st number) ∙ (ap (λ (x : State). goes_publish k.meta x n) (after_take k k1 h j does st) ∙ ap (λ (m : Metadata). goes_publish m (run k1.meta h1) n) (sym does.meta)) in
     let text1 : mid ≡ before ++ transcript Take (happens k.meta s Take) = told_by k k1 h Take (Taken j) [] before mid hp tells in
     let text2 : after ≡ mid ++ (goes_publish k1.meta (run k1.meta h1) n).text = told_by k1 k2 h1 (Publish n) (Published v) queued mid after hp2 tells2 in (
       omega (arith, fewer, ap (λ (xs : List ℕ). length xs) (kept_due k h st)),
@@ -112,7 +113,7 @@ took_some k k1 k2 h j n v queued before mid after does number fewer same hp2 tel
         stands = hp2.stands;
         meta = same ∙ does.meta;
         state = ap (λ (m : Metadata). run m (h1 ++ Publish n ∷ [])) (sym does.meta) ∙ (ap (λ (x : Step). x.state) (sym hp2.step) ∙ ap (λ (r : Reached). r.state) (sym second));
-        text = text2 ∙ (ap (λ (r : Reached). mid ++ r.text) (sym second) ∙ (ap (λ (xs : List ℕ). xs ++ (goes_publish k.meta t t.taken).text) text1 ∙ append_assoc before (transcript Take (happens k.meta s Take)) (goes_publish k.meta t t.taken).text));
+        text = text2 ∙ (ap (λ (r : Reached). mid ++ r.text) (sym second) ∙ (ap (λ (xs : List ℕ). xs ++ (goes_publish k.meta t t.jobs_made).text) text1 ∙ append_assoc before (transcript Take (happens k.meta s Take)) (goes_publish k.meta t t.jobs_made).text));
       },
     )
 
@@ -122,7 +123,7 @@ are_answers meta answers n v outcomes h en ev eo a =
     let A : ℕ → ℕ → List Outcome → Type 0 = λ x y z. AnswersOf meta (record { number = x; version = y; outcomes = z }) h in
     subst (λ (z : List Outcome). A answers.number answers.version z) (sym eo) (subst (λ (y : ℕ). A answers.number y outcomes) (sym ev) (subst (λ (x : ℕ). A x v outcomes) (sym en) a))
 
--- Turn by turn
+-- PieceOutcome by turn
 
 pub record Remains (k k' : Kept) (goal : Reached) (n : ℕ) (before after : List ℕ) : Type 0 where
   pub history : List Event
@@ -211,7 +212,7 @@ polled k k1 k2 h n before mid after does e st tells more =
 -- A poll adds no subscription
 
 subs-one : (meta : Metadata) (s : State) → subs (take_and_publish meta s).state ≡ subs s
-subs-one meta s = let t : State = (happens meta s Take).state in subs-publish meta t t.taken ∙ subs-take meta s
+subs-one meta s = let t : State = (happens meta s Take).state in subs-publish meta t t.jobs_made ∙ subs-take meta s
 
 subs-due : (meta : Metadata) (n : ℕ) (s : State) (due : List ℕ) → subs (publish_due meta n s due).state ≡ subs s
 subs-due meta zero s due = refl
@@ -221,7 +222,7 @@ subs-due meta (suc n) s (d ∷ due) = let t : State = (take_and_publish meta s).
 subs-poll : (meta : Metadata) (s : State) → subs (poll meta s).state ≡ subs s
 subs-poll meta s = let t : State = (happens meta s Tick).state in subs-due meta (length t.due) t t.due
 
-pub poll_ran : (k k' : Kept) (h : List Event) (before after : List ℕ) → StandsFor k h → Reaches k k' (poll k.meta (run k.meta h)) before after → k'.events ≤ k.events + 1 + 2 * length k.subscriptions → LineRan taken.Went (acts k.meta (run k.meta h) script.Poll) k k' before after
+pub poll_ran : (k k' : Kept) (h : List Event) (before after : List ℕ) → StandsFor k h → Reaches k k' (poll k.meta (run k.meta h)) before after → k'.events ≤ k.events + 1 + 2 * length k.subscriptions → LineRan line_result.Went (acts k.meta (run k.meta h) script.Poll) k k' before after
 poll_ran k k' h before after st q bounded = record {
   history = q.history;
   stands = q.stands;

@@ -1,6 +1,7 @@
 -- Laws of runs over lines.
 use Rattle.std.proofs.Common.{◌≡◌, ◌≢◌, ◌∙◌, ◌+◌, arith, sym, ap, refl, ℕ, List, [], ◌∷◌, ◌++◌, length, append-nil, append_assoc}
-use Rattle.model.specs.Script.{Lines, lines, Reading, Heading, Took, Went, Faulty, take_line, Standing, At, Fault, Reason, Ran, ran_on, run_lines}
+use Rattle.model.specs.Script.{Lines, lines, Reading, Heading, LineOutcome, Went, Faulty, take_line, Standing, At, Fault, Ran, ran_on, run_lines}
+use Rattle.model.specs.declared.script.ScriptReason.{ScriptReason}
 use Rattle.subs_run.specs.Runs.{ran}
 use Rattle.subs_run.proofs.Lines.{lines-append, push_byte, push_end}
 
@@ -16,7 +17,7 @@ after_front : (t u : List ℕ) (number : ℕ) (ms : List (List ℕ)) (s : Standi
 after_front t u number ms (At reading) = ap (λ (x : List ℕ). let r : Ran = record { text = x; standing = (run_lines number reading ms).standing } in r) (sym (append_assoc t u (run_lines number reading ms).text))
 after_front t u number ms (Fault line reason) = refl
 
-ran_on-goes_on : (n number : ℕ) (took : Took) (ms : List (List ℕ)) (f g : Reading → Ran) → ((r : Reading) → f r ≡ goes_on number ms (g r)) → ran_on n took f ≡ goes_on number ms (ran_on n took g)
+ran_on-goes_on : (n number : ℕ) (took : LineOutcome) (ms : List (List ℕ)) (f g : Reading → Ran) → ((r : Reading) → f r ≡ goes_on number ms (g r)) → ran_on n took f ≡ goes_on number ms (ran_on n took g)
 ran_on-goes_on n number (Went reading t) ms f g e = ap (λ (r : Ran). ran_on n (Went reading t) (λ _. r)) (e reading) ∙ after_front t (g reading).text number ms (g reading).standing
 ran_on-goes_on n number (Faulty reason) ms f g e = refl
 
@@ -46,10 +47,10 @@ ran-longer a b =
     (l.more, ap (λ (r : Ran). r.text) (ran-append a b) ∙ l.is)
 
 -- behind a fault nothing runs
-stays : (r : Ran) (number line : ℕ) (reason : Reason) (ms : List (List ℕ)) → r.standing ≡ Fault line reason → goes_on number ms r ≡ r
+stays : (r : Ran) (number line : ℕ) (reason : ScriptReason) (ms : List (List ℕ)) → r.standing ≡ Fault line reason → goes_on number ms r ≡ r
 stays r number line reason ms e = ap (λ (s : Standing). from_standing r.text number ms s) e ∙ ap (λ (s : Standing). let q : Ran = record { text = r.text; standing = s } in q) (sym e)
 
-pub ran-fault : (a b : List ℕ) (line : ℕ) (reason : Reason) → (ran a).standing ≡ Fault line reason → ran (a ++ b) ≡ ran a
+pub ran-fault : (a b : List ℕ) (line : ℕ) (reason : ScriptReason) → (ran a).standing ≡ Fault line reason → ran (a ++ b) ≡ ran a
 ran-fault a b line reason e = ran-append a b ∙ stays (ran a) (1 + length (lines a).0) line reason (lines ((lines a).1 ++ b)).0 e
 
 -- one more byte that is no line end

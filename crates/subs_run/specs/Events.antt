@@ -5,12 +5,11 @@ use Rattle.scalar_val.specs.declared.text.NoMemory.{NoMemory}
 use Rattle.model.specs.State.{Event}
 use Rattle.model.specs.Run.{run}
 use Rattle.model.specs.Transcript.{Reached, take_and_publish}
-use Rattle.model.specs.Script.{Reading, Running, Took, Went, Faulty}
+use Rattle.model.specs.Script.{Reading, Running, LineOutcome, Went, Faulty}
 use Rattle.hub.specs.State.{Kept}
 use Rattle.hub.specs.Stands.{StandsFor}
-use Rattle.script_text.specs.Said.{reason_of}
-use Rattle.subs_run.specs.declared.taken.Taken.{Taken}
-use Rattle.subs_run.specs.declared.taken.Taken.TheVariants as taken
+use Rattle.subs_run.specs.declared.line_result.LineResult.{LineResult}
+use Rattle.subs_run.specs.declared.line_result.LineResult.TheVariants as line_result
 
 -- the hub came to a state, and the transcript on the way was appended
 pub record Reaches (k k' : Kept) (goal : Reached) (before after : List ℕ) : Type 0 where
@@ -22,8 +21,10 @@ pub record Reaches (k k' : Kept) (goal : Reached) (before after : List ℕ) : Ty
 
 -- somebody was due, and a job was taken and published; or nobody was
 abbrev pub TookOne : Bool → Kept → Kept → List Event → List ℕ → List ℕ → Type 0
-TookOne true k k' h before after = (0 < length (run k.meta h).due) × Reaches k k' (take_and_publish k.meta (run k.meta h)) before after
-TookOne false k k' h before after = ((run k.meta h).due ≡ []) × Reaches k k' (record { state = run k.meta h; text = [] }) before after
+TookOne true k k' h before after = (0 < length (run k.meta h).due)
+    × Reaches k k' (take_and_publish k.meta (run k.meta h)) before after
+TookOne false k k' h before after = ((run k.meta h).due ≡ [])
+    × Reaches k k' (record { state = run k.meta h; text = [] }) before after
 
 -- a line went, and its transcript was appended
 pub record RanOn (k k' : Kept) (reading : Reading) (text before after : List ℕ) : Type 0 where
@@ -35,14 +36,14 @@ pub record RanOn (k k' : Kept) (reading : Reading) (text before after : List ℕ
   pub bounded : k'.events ≤ k.events + 1 + 2 * length k.subscriptions
 
 -- a line went as the rules say, or is at fault
-abbrev pub LineRan : Taken → Took → Kept → Kept → List ℕ → List ℕ → Type 0
-LineRan taken.Went (Went reading text) k k' before after = RanOn k k' reading text before after
-LineRan taken.Went (Faulty reason) k k' before after = ⊥
-LineRan (taken.Faulty reason) (Went reading text) k k' before after = ⊥
-LineRan (taken.Faulty reason) (Faulty other) k k' before after = other ≡ reason_of reason
-LineRan taken.NoMemory took k k' before after = Unit {0}
+abbrev pub LineRan : LineResult → LineOutcome → Kept → Kept → List ℕ → List ℕ → Type 0
+LineRan line_result.Went (Went reading text) k k' before after = RanOn k k' reading text before after
+LineRan line_result.Went (Faulty reason) k k' before after = ⊥
+LineRan (line_result.Faulty reason) (Went reading text) k k' before after = ⊥
+LineRan (line_result.Faulty reason) (Faulty other) k k' before after = other ≡ reason
+LineRan line_result.NoMemory took k k' before after = Unit {0}
 
-abbrev pub IsWent : Taken → Result (Unit {0}) NoMemory → Type 0
-IsWent taken.Went written = written ≡ Ok tt
-IsWent (taken.Faulty reason) written = ⊥
-IsWent taken.NoMemory written = Unit {0}
+abbrev pub IsWent : LineResult → Result (Unit {0}) NoMemory → Type 0
+IsWent line_result.Went written = written ≡ Ok tt
+IsWent (line_result.Faulty reason) written = ⊥
+IsWent line_result.NoMemory written = Unit {0}

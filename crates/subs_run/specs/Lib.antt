@@ -3,5 +3,5 @@ pub mod Written
 pub mod Events
 pub mod Progress
 pub mod Standing
-pub mod Turns
+pub mod Pieces
 pub mod Words

@@ -1,7 +1,7 @@
 -- What a run of a script has read and written of an input. This project's own.
 use Rattle.std.specs.Prelude.{◌≡◌, ℕ, ◌<◌, ◌≤◌, ◌+◌, Option, Some, None, List, [], ◌++◌, length, take}
-use Rattle.model.specs.Script.{Reading, Heading, At, Reason, Ran, lines, run_lines, limit, outcome}
-use Rattle.script_text.specs.Said.{reason_of}
+use Rattle.model.specs.Script.{Reading, Heading, At, Ran, lines, run_lines, limit, outcome}
+use Rattle.model.specs.declared.script.ScriptReason.{ScriptReason}
 use Rattle.outside.specs.declared.source.Got.{Got}
 use Rattle.outside.specs.declared.source.Got.TheVariants as got
 use Rattle.subs_run.specs.declared.answer.RunEnd.{RunEnd}
@@ -48,9 +48,9 @@ AtMost most got.End = Unit {0}
 AtMost most got.Failed = Unit {0}
 
 -- what an answer says of the fault of the script
-abbrev pub EndsAs : RunEnd → Option (ℕ × Reason) → Type 0
+abbrev pub EndsAs : RunEnd → Option (ℕ × ScriptReason) → Type 0
 EndsAs run_end.Done fault = fault ≡ None
-EndsAs (run_end.ScriptFault line reason) fault = fault ≡ Some (line, reason_of reason)
+EndsAs (run_end.ScriptFault line reason) fault = fault ≡ Some (line, reason)
 EndsAs run_end.SourceFault fault = Unit {0}
 EndsAs run_end.SinkFault fault = Unit {0}
 EndsAs run_end.NoMemory fault = Unit {0}

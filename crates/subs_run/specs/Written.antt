@@ -15,4 +15,5 @@ WritesOn old new before after = (w : List ℕ) → old ≡ Some (w ++ before) �
 
 -- a front of the longer one
 abbrev pub WritesFrontOn : Option (List ℕ) → Option (List ℕ) → List ℕ → List ℕ → Type 0
-WritesFrontOn old new before after = (w : List ℕ) → old ≡ Some (w ++ before) → (n : ℕ) × (new ≡ Some (w ++ take n after))
+WritesFrontOn old new before after = (w : List ℕ) → old ≡ Some (w ++ before) → (n : ℕ)
+    × (new ≡ Some (w ++ take n after))

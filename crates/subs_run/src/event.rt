@@ -3,13 +3,26 @@ ghost use Rattle.data_model.specs.Form.{transaction};
 ghost use Rattle.model.specs.State.{Event, Connect, Commit};
 ghost use Rattle.model.specs.Run.{run};
 ghost use Rattle.model.specs.Forms.{read_message};
-ghost use Rattle.model.specs.Script.{Open, Poll, Faulty, Unbuilt, act, acts, commits, on_known, opens, read_line, receives, serves};
+ghost use Rattle.model.specs.Script.{
+  Open,
+  Poll,
+  Faulty,
+  act,
+  acts,
+  commits,
+  on_known,
+  opens,
+  read_line,
+  receives,
+  serves,
+};
+ghost use Rattle.model.specs.declared.script.ScriptReason.TheVariants.{Unbuilt};
 ghost use Rattle.hub.specs.Stands.{StandsFor};
 ghost use Rattle.script_text.specs.Said.{line_of};
 ghost use Rattle.subs_run.specs.Events.{LineRan, IsWent};
 
+use crate::line_result::LineResult;
 use crate::poll::poll;
-use crate::taken::Taken;
 use hub::{CommitReply, ConnReply, Hub};
 use scalar_val::{NoMemory, Steps};
 use script_text::{
@@ -26,14 +39,16 @@ pub(crate) fn run_line<L: Ledger>(
     line: &[u8],
     out: &mut Vec<u8>,
     steps: &mut Steps<L>,
-) -> Taken
+) -> LineResult
     requires stands { (h : List Event) × StandsFor hub.old h }
     requires few { hub.old.events + 1 + 2 * length hub.old.subscriptions < 2 ^ 62 }
-    ensures { (h : List Event) → StandsFor hub.old h → LineRan result (act hub.old.meta (run hub.old.meta h) (read_line line.now)) hub.old hub.new out.old.items out.new.items }
+    ensures { (h : List Event) → StandsFor hub.old h →
+        LineRan result (act hub.old.meta (run hub.old.meta h) (read_line line.now)) hub.old hub.new out.old.items
+        out.new.items }
 {
     match read_line(line) {
         Some(line) => run_form(hub, alloc, line, out, steps),
-        None => Taken::Faulty(ScriptReason::NotEvent),
+        None => LineResult::Faulty(ScriptReason::NotEvent),
     }
 }
 
@@ -44,13 +59,15 @@ fn run_form<L: Ledger>(
     line: Line<'_>,
     out: &mut Vec<u8>,
     steps: &mut Steps<L>,
-) -> Taken
+) -> LineResult
     requires stands { (h : List Event) × StandsFor hub.old h }
     requires few { hub.old.events + 1 + 2 * length hub.old.subscriptions < 2 ^ 62 }
-    ensures { (h : List Event) → StandsFor hub.old h → LineRan result (acts hub.old.meta (run hub.old.meta h) (line_of line.entry)) hub.old hub.new out.old.items out.new.items }
+    ensures { (h : List Event) → StandsFor hub.old h →
+        LineRan result (acts hub.old.meta (run hub.old.meta h) (line_of line.entry)) hub.old hub.new out.old.items
+        out.new.items }
 {
     match line {
-        Line::Passed => Taken::Went,
+        Line::Passed => LineResult::Went,
         Line::Open(conn) => run_open(hub, alloc, conn, out),
         Line::Receive { conn, text } => run_recv(hub, alloc, conn, text, out),
         Line::Commit(text) => run_commit(hub, alloc, text, out, steps),
@@ -59,22 +76,23 @@ fn run_form<L: Ledger>(
         Line::Timeout(conn) => unbuilt_on(hub, conn),
         Line::Gone(conn) => unbuilt_on(hub, conn),
         Line::Drain(conn) => unbuilt_on(hub, conn),
-        Line::Tick => Taken::Faulty(ScriptReason::Unbuilt),
-        Line::Take => Taken::Faulty(ScriptReason::Unbuilt),
-        Line::Publish(_) => Taken::Faulty(ScriptReason::Unbuilt),
-        Line::Abandon(_) => Taken::Faulty(ScriptReason::Unbuilt),
-        Line::Report => Taken::Faulty(ScriptReason::Unbuilt),
+        Line::Tick => LineResult::Faulty(ScriptReason::Unbuilt),
+        Line::Take => LineResult::Faulty(ScriptReason::Unbuilt),
+        Line::Publish(_) => LineResult::Faulty(ScriptReason::Unbuilt),
+        Line::Abandon(_) => LineResult::Faulty(ScriptReason::Unbuilt),
+        Line::Report => LineResult::Faulty(ScriptReason::Unbuilt),
     }
 }
 
 /// The fault of a line on a connection whose form isn't built so far.
-fn unbuilt_on(hub: &Hub, conn: u32) -> Taken
-    ensures { (h : List Event) (before after : List ℕ) → StandsFor hub.now h → LineRan result (on_known (run hub.now.meta h) conn (Faulty Unbuilt)) hub.now hub.now before after }
+fn unbuilt_on(hub: &Hub, conn: u32) -> LineResult
+    ensures { (h : List Event) (before after : List ℕ) → StandsFor hub.now h →
+        LineRan result (on_known (run hub.now.meta h) conn (Faulty Unbuilt)) hub.now hub.now before after }
 {
     if hub.knows(conn) {
-        Taken::Faulty(ScriptReason::Unbuilt)
+        LineResult::Faulty(ScriptReason::Unbuilt)
     } else {
-        Taken::Faulty(ScriptReason::Unknown)
+        LineResult::Faulty(ScriptReason::Unknown)
     }
 }
 
@@ -83,40 +101,45 @@ fn run_poll<L: Ledger>(
     alloc: Global,
     out: &mut Vec<u8>,
     steps: &mut Steps<L>,
-) -> Taken
+) -> LineResult
     requires stands { (h : List Event) × StandsFor hub.old h }
     requires few { hub.old.events + 1 + 2 * length hub.old.subscriptions < 2 ^ 62 }
-    ensures { (h : List Event) → StandsFor hub.old h → LineRan result (acts hub.old.meta (run hub.old.meta h) Poll) hub.old hub.new out.old.items out.new.items }
+    ensures { (h : List Event) → StandsFor hub.old h →
+        LineRan result (acts hub.old.meta (run hub.old.meta h) Poll) hub.old hub.new out.old.items out.new.items }
 {
     match poll(hub, alloc, out, steps) {
-        Ok(()) => Taken::Went,
-        Err(NoMemory) => Taken::NoMemory,
+        Ok(()) => LineResult::Went,
+        Err(NoMemory) => LineResult::NoMemory,
     }
 }
 
-fn run_open(hub: &mut Hub, alloc: Global, conn: u32, out: &mut Vec<u8>) -> Taken
+fn run_open(hub: &mut Hub, alloc: Global, conn: u32, out: &mut Vec<u8>) -> LineResult
     requires { hub.old.events < 2 ^ 62 }
-    ensures { (h : List Event) → StandsFor hub.old h → LineRan result (opens hub.old.meta (run hub.old.meta h) conn) hub.old hub.new out.old.items out.new.items }
+    ensures { (h : List Event) → StandsFor hub.old h →
+        LineRan result (opens hub.old.meta (run hub.old.meta h) conn) hub.old hub.new out.old.items out.new.items }
 {
     match hub.connect(alloc, conn) {
         Ok(ConnReply::Did(effect)) => went(write_open(out, conn, &effect.queued)),
-        Ok(ConnReply::ConnKnown) => Taken::Faulty(ScriptReason::Known),
-        Ok(ConnReply::ConnUnknown) => Taken::Faulty(ScriptReason::Unknown),
-        Ok(ConnReply::Unbuilt) => Taken::Faulty(ScriptReason::Unbuilt),
-        Err(NoMemory) => Taken::NoMemory,
+        Ok(ConnReply::ConnKnown) => LineResult::Faulty(ScriptReason::Known),
+        Ok(ConnReply::ConnUnknown) => LineResult::Faulty(ScriptReason::Unknown),
+        Ok(ConnReply::Unbuilt) => LineResult::Faulty(ScriptReason::Unbuilt),
+        Err(NoMemory) => LineResult::NoMemory,
     }
 }
 
-fn run_recv(hub: &mut Hub, alloc: Global, conn: u32, text: &str, out: &mut Vec<u8>) -> Taken
+fn run_recv(hub: &mut Hub, alloc: Global, conn: u32, text: &str, out: &mut Vec<u8>) -> LineResult
     requires { hub.old.events < 2 ^ 62 }
-    ensures { (h : List Event) → StandsFor hub.old h → LineRan result (on_known (run hub.old.meta h) conn (receives hub.old.meta (run hub.old.meta h) conn (read_message text.now))) hub.old hub.new out.old.items out.new.items }
+    ensures { (h : List Event) → StandsFor hub.old h →
+        LineRan result (on_known (run hub.old.meta h) conn
+        (receives hub.old.meta (run hub.old.meta h) conn (read_message text.now))) hub.old hub.new out.old.items
+        out.new.items }
 {
     match hub.recv(alloc, conn, text) {
         Ok(ConnReply::Did(effect)) => went(write_recv(out, conn, &effect.queued)),
-        Ok(ConnReply::ConnKnown) => Taken::Faulty(ScriptReason::Known),
-        Ok(ConnReply::ConnUnknown) => Taken::Faulty(ScriptReason::Unknown),
-        Ok(ConnReply::Unbuilt) => Taken::Faulty(ScriptReason::Unbuilt),
-        Err(NoMemory) => Taken::NoMemory,
+        Ok(ConnReply::ConnKnown) => LineResult::Faulty(ScriptReason::Known),
+        Ok(ConnReply::ConnUnknown) => LineResult::Faulty(ScriptReason::Unknown),
+        Ok(ConnReply::Unbuilt) => LineResult::Faulty(ScriptReason::Unbuilt),
+        Err(NoMemory) => LineResult::NoMemory,
     }
 }
 
@@ -126,14 +149,16 @@ fn run_commit<L: Ledger>(
     text: &str,
     out: &mut Vec<u8>,
     steps: &mut Steps<L>,
-) -> Taken
+) -> LineResult
     requires { hub.old.events < 2 ^ 62 }
-    ensures { (h : List Event) → StandsFor hub.old h → LineRan result (commits hub.old.meta (run hub.old.meta h) (transaction text.now)) hub.old hub.new out.old.items out.new.items }
+    ensures { (h : List Event) → StandsFor hub.old h →
+        LineRan result (commits hub.old.meta (run hub.old.meta h) (transaction text.now)) hub.old hub.new out.old.items
+        out.new.items }
 {
     match read_tx(alloc, text) {
         Ok(tx) => commit(hub, alloc, &tx, out, steps),
-        Err(TxTextFault::NotTransaction) => Taken::Faulty(ScriptReason::Transaction),
-        Err(TxTextFault::NoMemory) => Taken::NoMemory,
+        Err(TxTextFault::NotTransaction) => LineResult::Faulty(ScriptReason::Transaction),
+        Err(TxTextFault::NoMemory) => LineResult::NoMemory,
     }
 }
 
@@ -143,23 +168,25 @@ fn commit<L: Ledger>(
     tx: &Tx,
     out: &mut Vec<u8>,
     steps: &mut Steps<L>,
-) -> Taken
+) -> LineResult
     requires { hub.old.events < 2 ^ 62 }
-    ensures { (h : List Event) → StandsFor hub.old h → LineRan result (serves hub.old.meta (run hub.old.meta h) (Commit tx.now)) hub.old hub.new out.old.items out.new.items }
+    ensures { (h : List Event) → StandsFor hub.old h →
+        LineRan result (serves hub.old.meta (run hub.old.meta h) (Commit tx.now)) hub.old hub.new out.old.items
+        out.new.items }
 {
     match hub.commit(alloc, tx, steps) {
         Ok(CommitReply::Committed(version)) => went(write_commit(out, version)),
         Ok(CommitReply::Refused(fault)) => went(write_refused(out, fault)),
-        Err(NoMemory) => Taken::NoMemory,
+        Err(NoMemory) => LineResult::NoMemory,
     }
 }
 
 /// A line went, if its transcript could be appended.
-fn went(written: Result<(), NoMemory>) -> Taken
+fn went(written: Result<(), NoMemory>) -> LineResult
     ensures { IsWent result written }
 {
     match written {
-        Ok(()) => Taken::Went,
-        Err(NoMemory) => Taken::NoMemory,
+        Ok(()) => LineResult::Went,
+        Err(NoMemory) => LineResult::NoMemory,
     }
 }

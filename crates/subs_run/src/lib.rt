@@ -4,13 +4,13 @@
 
 mod answer;
 mod event;
+mod line_result;
 mod main_call;
 mod poll;
 mod progress;
 mod put;
 mod reader;
 mod script;
-mod taken;
 
 pub use answer::{RunEnd, ScriptReason};
 pub use main_call::run_main;

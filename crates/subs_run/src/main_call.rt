@@ -1,6 +1,7 @@
 ghost use Rattle.std.specs.Prelude.{◌≡◌, ◌≢◌, ◌≤◌, ◌⊎◌, ◌++◌, true, false, ℕ, List, Some, None, map, string_bytes};
 ghost use Rattle.outside.specs.Ends.{Rose};
-ghost use Rattle.model.specs.Script.{Reason, outcome, output};
+ghost use Rattle.model.specs.Script.{outcome, output};
+ghost use Rattle.model.specs.declared.script.ScriptReason.{ScriptReason};
 ghost use Rattle.subs_run.specs.Runs.{HasRead, ReadWhole, WroteWholeLines, WroteFront};
 ghost use Rattle.subs_run.specs.Words.{is_run, usage_line, answer_text};
 ghost use Rattle.subs_run.specs.Written.{WritesAll, WritesFront};
@@ -35,30 +36,40 @@ pub fn run_main<S: Source, K: Sink, L: Ledger>(
 
     // 0 and 2: the whole output was written.
     ensures done { result ≡ 0 → (all : List ℕ) → S.left source.old ≡ Some all → ReadWhole all (S.left source.new) }
-    ensures fault { result ≡ 2 → (all : List ℕ) → S.left source.old ≡ Some all → (line : ℕ) × ((reason : Reason) × ((outcome all).fault ≡ Some (line, reason))) }
-    ensures whole { (result ≡ 0) ⊎ (result ≡ 2) → (all w : List ℕ) → S.left source.old ≡ Some all → K.written sink.old ≡ Some w → K.written sink.new ≡ Some (w ++ output all) }
+    ensures fault { result ≡ 2 → (all : List ℕ) → S.left source.old ≡ Some all → (line : ℕ)
+        × ((reason : ScriptReason) × ((outcome all).fault ≡ Some (line, reason))) }
+    ensures whole { (result ≡ 0) ⊎ (result ≡ 2) → (all w : List ℕ) → S.left source.old ≡ Some all →
+        K.written sink.old ≡ Some w → K.written sink.new ≡ Some (w ++ output all) }
 
     // 1: the source failed. What was written is the transcript of the lines that were whole, none of them at fault.
     ensures source_fault { result ≡ 1 → Rose (S.faults source.old) (S.faults source.new) }
-    ensures source_lines { result ≡ 1 → (all w : List ℕ) → S.left source.old ≡ Some all → K.written sink.old ≡ Some w → WroteWholeLines all w (S.left source.new) (K.written sink.new) }
+    ensures source_lines { result ≡ 1 → (all w : List ℕ) → S.left source.old ≡ Some all → K.written sink.old ≡ Some w →
+        WroteWholeLines all w (S.left source.new) (K.written sink.new) }
 
     // 3: the sink failed. What was written is a front of what 0, 2 or 5 would write, as for want of memory.
     ensures sink_fault { result ≡ 3 → Rose (K.faults sink.old) (K.faults sink.new) }
-    ensures front { (result ≡ 3) ⊎ (result ≡ 4) → (all w : List ℕ) → S.left source.old ≡ Some all → K.written sink.old ≡ Some w → WroteFront (answer_text (map string_bytes words.now) all) w (K.written sink.new) }
+    ensures front { (result ≡ 3) ⊎ (result ≡ 4) → (all w : List ℕ) → S.left source.old ≡ Some all →
+        K.written sink.old ≡ Some w → WroteFront (answer_text (map string_bytes words.now) all) w (K.written sink.new) }
 
     // 5: the words are no command.
     ensures run_alone { is_run (map string_bytes words.now) ≡ true → result ≢ 5 }
     ensures usage { is_run (map string_bytes words.now) ≡ false → (result ≡ 5) ⊎ ((result ≡ 3) ⊎ (result ≡ 4)) }
-    ensures usage_written { result ≡ 5 → (w : List ℕ) → K.written sink.old ≡ Some w → K.written sink.new ≡ Some (w ++ usage_line) }
-    ensures usage_front { is_run (map string_bytes words.now) ≡ false → (w : List ℕ) → K.written sink.old ≡ Some w → WroteFront usage_line w (K.written sink.new) }
+    ensures usage_written { result ≡ 5 → (w : List ℕ) → K.written sink.old ≡ Some w →
+        K.written sink.new ≡ Some (w ++ usage_line) }
+    ensures usage_front { is_run (map string_bytes words.now) ≡ false → (w : List ℕ) → K.written sink.old ≡ Some w →
+        WroteFront usage_line w (K.written sink.new) }
     ensures unread { is_run (map string_bytes words.now) ≡ false → source.new ≡ source.old }
 
     // No more than one byte past the limit is read.
     ensures reads { (all : List ℕ) → S.left source.old ≡ Some all → HasRead all (S.left source.new) }
 
-    // Ends that tell that they never fail bring neither fault, and then a script without a fault is run whole.
+    // A source that tells that it never fails brings no 1, whatever the sink does, and a sink that does brings no 3,
+    // whatever the source does. Where neither fails, a script without a fault is run whole.
+    ensures source_steady { S.never_fails source.old → result ≢ 1 }
+    ensures sink_steady { K.never_fails sink.old → result ≢ 3 }
     ensures complete { S.never_fails source.old → K.never_fails sink.old → (result ≢ 1) × (result ≢ 3) }
-    ensures answered { S.never_fails source.old → K.never_fails sink.old → is_run (map string_bytes words.now) ≡ true → (all : List ℕ) → S.left source.old ≡ Some all → (outcome all).fault ≡ None → (result ≡ 0) ⊎ (result ≡ 4) }
+    ensures answered { S.never_fails source.old → K.never_fails sink.old → is_run (map string_bytes words.now) ≡ true →
+        (all : List ℕ) → S.left source.old ≡ Some all → (outcome all).fault ≡ None → (result ≡ 0) ⊎ (result ≡ 4) }
 {
     if !is_run(words) {
         return write_usage(sink);

@@ -22,7 +22,8 @@ pub(crate) fn poll<L: Ledger>(
 ) -> Result<(), NoMemory>
     requires stands { (h : List Event) × StandsFor hub.old h }
     requires few { hub.old.events + 1 + 2 * length hub.old.subscriptions < 2 ^ 62 }
-    ensures reaches { OnOk result ((h : List Event) → StandsFor hub.old h → Reaches hub.old hub.new (transcript.poll hub.old.meta (run hub.old.meta h)) out.old.items out.new.items) }
+    ensures reaches { OnOk result ((h : List Event) → StandsFor hub.old h →
+        Reaches hub.old hub.new (transcript.poll hub.old.meta (run hub.old.meta h)) out.old.items out.new.items) }
     ensures events { OnOk result (hub.new.events ≤ hub.old.events + 1 + 2 * length hub.old.subscriptions) }
 {
     let due = hub.tick();
@@ -40,10 +41,12 @@ fn publish_due<L: Ledger>(
 ) -> Result<(), NoMemory>
     requires stands { (h : List Event) × StandsFor hub.old h }
     requires few { hub.old.events + 2 * due < 2 ^ 62 }
-    ensures reaches { OnOk result ((h : List Event) → StandsFor hub.old h → Reaches hub.old hub.new (transcript.publish_due hub.old.meta due (run hub.old.meta h) (run hub.old.meta h).due) out.old.items out.new.items) }
+    ensures reaches { OnOk result ((h : List Event) → StandsFor hub.old h →
+        Reaches hub.old hub.new (transcript.publish_due hub.old.meta due (run hub.old.meta h) (run hub.old.meta h).due)
+        out.old.items out.new.items) }
     ensures events { OnOk result (hub.new.events ≤ hub.old.events + 2 * due) }
 {
-    for _turn in 0..due {
+    for _round in 0..due {
         if !take_and_publish(hub, alloc, out, steps)? {
             return Ok(());
         }
@@ -59,7 +62,8 @@ fn take_and_publish<L: Ledger>(
     steps: &mut Steps<L>,
 ) -> Result<bool, NoMemory>
     requires { hub.old.events + 2 < 2 ^ 62 }
-    ensures took { IfOk result (λ some. (h : List Event) → StandsFor hub.old h → TookOne some hub.old hub.new h out.old.items out.new.items) }
+    ensures took { IfOk result (λ some. (h : List Event) → StandsFor hub.old h →
+        TookOne some hub.old hub.new h out.old.items out.new.items) }
     ensures events { OnOk result (hub.new.events ≤ hub.old.events + 2) }
 {
     let Some(job) = hub.take(alloc)? else {

@@ -1,12 +1,12 @@
 ghost use Rattle.std.specs.Prelude.{◌≡◌, ◌<◌, ◌+◌, ◌++◌, ◌∷◌, [], ℕ, Err, IfOk, IfErr, codes};
 ghost use Rattle.model.specs.Values.{same_text};
 ghost use Rattle.role_model.specs.declared.metadata.MetaFault.{MetaFault};
-ghost use Rattle.role_model.specs.MetadataFaults.{metadata_of};
+ghost use Rattle.role_model.specs.MetadataMeaning.{metadata_of};
 ghost use Rattle.model.specs.Script.{Reading, take_line, limit};
 ghost use Rattle.subs_run.specs.Progress.{HasStand, StandsAt, Advances, Begins, IsNew, IfWent};
 
 use crate::event::run_line;
-use crate::taken::Taken;
+use crate::line_result::LineResult;
 use hub::Hub;
 use role_schema::{Meta, MetaReadFault};
 use scalar_val::{NoMemory, Steps};
@@ -28,9 +28,10 @@ pub(crate) fn advance<L: Ledger>(
     line: &[u8],
     out: &mut Vec<u8>,
     steps: &mut Steps<L>,
-) -> Taken
+) -> LineResult
     requires { HasStand progress.old }
-    ensures { (taken : ℕ) (reading : Reading) → taken < limit → StandsAt progress.old taken reading → Advances result (take_line reading line.now) progress.new (taken + 1) out.old.items out.new.items }
+    ensures { (lines_read : ℕ) (reading : Reading) → lines_read < limit → StandsAt progress.old lines_read reading →
+        Advances result (take_line reading line.now) progress.new (lines_read + 1) out.old.items out.new.items }
 {
     match progress {
         Progress::Running(hub) => run_line(hub, alloc, line, out, steps),
@@ -41,12 +42,12 @@ pub(crate) fn advance<L: Ledger>(
             match begin(alloc, metadata) {
                 Ok(hub) => {
                     *progress = Progress::Running(hub);
-                    Taken::Went
+                    LineResult::Went
                 }
                 Err(MetaReadFault::Refused(fault)) => {
-                    Taken::Faulty(ScriptReason::Metadata(fault))
+                    LineResult::Faulty(ScriptReason::Metadata(fault))
                 }
-                Err(MetaReadFault::NoMemory) => Taken::NoMemory,
+                Err(MetaReadFault::NoMemory) => LineResult::NoMemory,
             }
         }
     }
@@ -62,7 +63,8 @@ fn ends_metadata(line: &[u8]) -> bool
 /// The hub at the metadata's end, or the metadata's first fault.
 fn begin(alloc: Global, metadata: &[u8]) -> Result<Hub, MetaReadFault>
     ensures began { IfOk result (λ hub. Begins (metadata_of metadata.now) hub) }
-    ensures refused { (fault : MetaFault) → result ≡ Err (MetaReadFault.Refused fault) → metadata_of metadata.now ≡ Err fault }
+    ensures refused { (fault : MetaFault) → result ≡ Err (MetaReadFault.Refused fault) →
+        metadata_of metadata.now ≡ Err fault }
 {
     match Meta::read(alloc, metadata) {
         Ok(meta) => begin_with(alloc, meta),
@@ -82,14 +84,14 @@ fn begin_with(alloc: Global, meta: Meta) -> Result<Hub, MetaReadFault>
 }
 
 /// Keeps a line of the metadata.
-fn keep_line(metadata: &mut Vec<u8>, line: &[u8]) -> Taken
+fn keep_line(metadata: &mut Vec<u8>, line: &[u8]) -> LineResult
     ensures { IfWent result (metadata.new.items ≡ metadata.old.items ++ line.now ++ 10 ∷ []) }
 {
     if metadata.extend_from_slice(line).is_err() {
-        return Taken::NoMemory;
+        return LineResult::NoMemory;
     }
     match metadata.push(b'\n') {
-        Ok(()) => Taken::Went,
-        Err(_) => Taken::NoMemory,
+        Ok(()) => LineResult::Went,
+        Err(_) => LineResult::NoMemory,
     }
 }

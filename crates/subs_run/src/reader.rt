@@ -1,16 +1,33 @@
-ghost use Rattle.std.specs.Prelude.{◌≡◌, ◌≢◌, ◌≤◌, ◌<◌, ◌+◌, ◌++◌, ◌∷◌, ◌⊎◌, [], ℕ, List, Some, length, None, OnOk, if◌then◌else◌};
+ghost use Rattle.std.specs.Prelude.{
+  ◌≡◌,
+  ◌≢◌,
+  ◌≤◌,
+  ◌<◌,
+  ◌+◌,
+  ◌++◌,
+  ◌∷◌,
+  ◌⊎◌,
+  [],
+  ℕ,
+  List,
+  Some,
+  length,
+  None,
+  OnOk,
+  if◌then◌else◌,
+};
 ghost use Rattle.outside.specs.Ends.{Rose};
-ghost use Rattle.model.specs.Script.{Reading, take_line, limit, ended, fault_line, Cut};
-ghost use Rattle.script_text.specs.Said.{reason_of};
+ghost use Rattle.model.specs.Script.{Reading, take_line, limit, ended, fault_line};
+ghost use Rattle.model.specs.declared.script.ScriptReason.TheVariants.{Cut};
 ghost use Rattle.subs_run.specs.Runs.{ran};
-ghost use Rattle.subs_run.specs.Turns.{TakesTo, ClosesAs};
+ghost use Rattle.subs_run.specs.Pieces.{TakesTo, ClosesAs};
 ghost use Rattle.subs_run.specs.Progress.{StandsAt};
 ghost use Rattle.subs_run.specs.Standing.{Matches, IsAfter, FedAs, FedAll, HasRoom};
 
 use crate::answer::{RunEnd, ScriptReason};
+use crate::line_result::LineResult;
 use crate::progress::{Progress, advance};
 use crate::put::{Wrote, write_all};
-use crate::taken::Taken;
 use outside::Sink;
 use scalar_val::Steps;
 use script_text::write_fault;
@@ -23,8 +40,8 @@ pub(crate) struct Reader {
     pub progress: Progress,
     /// The line whose end hasn't come yet.
     pub line: Vec<u8>,
-    /// How many lines were taken.
-    pub taken: u64,
+    /// How many lines were run.
+    pub lines_read: u64,
     /// The transcript of the last line.
     pub out: Vec<u8>,
 }
@@ -38,10 +55,10 @@ pub(crate) enum Fed {
     NoMemory,
 }
 
-/// How the taking of a piece ended: so many bytes were taken, or the run ends.
+/// What became of a piece: so many bytes were read, or the run ends.
 #[derive(Clone, Copy)]
-pub(crate) enum Turn {
-    Took(usize),
+pub(crate) enum PieceOutcome {
+    Read(usize),
     Ended(RunEnd),
 }
 
@@ -53,25 +70,26 @@ impl Reader {
         Reader {
             progress: Progress::Heading(Vec::new(alloc)),
             line: Vec::new(alloc),
-            taken: 0,
+            lines_read: 0,
             out: Vec::new(alloc),
         }
     }
 
     /// Takes the line, whose end came, and leaves its transcript in `out`.
-    fn take_line<L: Ledger>(&mut self, alloc: Global, steps: &mut Steps<L>) -> Taken
-        requires stands { (reading : Reading) × StandsAt self.old.progress self.old.taken reading }
-        requires few { self.old.taken < limit }
-        ensures went { (reading : Reading) → StandsAt self.old.progress self.old.taken reading → Matches result (take_line reading self.old.line.items) self.old.taken self.new }
+    fn take_line<L: Ledger>(&mut self, alloc: Global, steps: &mut Steps<L>) -> LineResult
+        requires stands { (reading : Reading) × StandsAt self.old.progress self.old.lines_read reading }
+        requires few { self.old.lines_read < limit }
+        ensures went { (reading : Reading) → StandsAt self.old.progress self.old.lines_read reading →
+            Matches result (take_line reading self.old.line.items) self.old.lines_read self.new }
     {
         self.out.clear();
         match advance(&mut self.progress, alloc, &self.line, &mut self.out, steps) {
-            Taken::Went => {
+            LineResult::Went => {
                 self.line.clear();
-                self.taken += 1;
-                Taken::Went
+                self.lines_read += 1;
+                LineResult::Went
             }
-            taken => taken,
+            other => other,
         }
     }
 
@@ -85,7 +103,8 @@ impl Reader {
     ) -> Fed
         requires { HasRoom self.old 1 }
         ensures fed { (seen : List ℕ) → IsAfter self.old seen → FedAs result self.new (seen ++ byte ∷ []) }
-        ensures all { (seen : List ℕ) → IsAfter self.old seen → FedAll result (K.written sink.old) (K.written sink.new) (ran seen).text (ran (seen ++ byte ∷ [])).text }
+        ensures all { (seen : List ℕ) → IsAfter self.old seen →
+            FedAll result (K.written sink.old) (K.written sink.new) (ran seen).text (ran (seen ++ byte ∷ [])).text }
         ensures later { K.faults sink.old ≤ K.faults sink.new }
         ensures failed { result ≡ Fed.SinkFailed → Rose (K.faults sink.old) (K.faults sink.new) }
         ensures steady { K.never_fails sink.old → K.never_fails sink.new × (result ≢ Fed.SinkFailed) }
@@ -97,9 +116,9 @@ impl Reader {
             };
         }
         match self.take_line(alloc, steps) {
-            Taken::Went => {}
-            Taken::Faulty(reason) => return Fed::Faulty(reason),
-            Taken::NoMemory => return Fed::NoMemory,
+            LineResult::Went => {}
+            LineResult::Faulty(reason) => return Fed::Faulty(reason),
+            LineResult::NoMemory => return Fed::NoMemory,
         }
         match write_all(sink, &self.out) {
             Wrote::Done => Fed::Done,
@@ -118,7 +137,8 @@ impl Reader {
     ) -> Fed
         requires { HasRoom self.old (length piece.now) }
         ensures fed { (seen : List ℕ) → IsAfter self.old seen → FedAs result self.new (seen ++ piece.now) }
-        ensures all { (seen : List ℕ) → IsAfter self.old seen → FedAll result (K.written sink.old) (K.written sink.new) (ran seen).text (ran (seen ++ piece.now)).text }
+        ensures all { (seen : List ℕ) → IsAfter self.old seen →
+            FedAll result (K.written sink.old) (K.written sink.new) (ran seen).text (ran (seen ++ piece.now)).text }
         ensures later { K.faults sink.old ≤ K.faults sink.new }
         ensures failed { result ≡ Fed.SinkFailed → Rose (K.faults sink.old) (K.faults sink.new) }
         ensures steady { K.never_fails sink.old → K.never_fails sink.new × (result ≢ Fed.SinkFailed) }
@@ -139,30 +159,33 @@ impl Reader {
         sink: &mut K,
         piece: &[u8],
         steps: &mut Steps<L>,
-    ) -> Turn
+    ) -> PieceOutcome
         requires { HasRoom self.old (length piece.now) }
-        ensures takes { (seen : List ℕ) → IsAfter self.old seen → length seen + length piece.now ≤ limit → TakesTo result self.new (K.written sink.old) (K.written sink.new) seen piece.now }
+        ensures takes { (seen : List ℕ) → IsAfter self.old seen → length seen + length piece.now ≤ limit →
+            TakesTo result self.new (K.written sink.old) (K.written sink.new) seen piece.now }
         ensures later { K.faults sink.old ≤ K.faults sink.new }
-        ensures failed { result ≡ Turn.Ended RunEnd.SinkFault → Rose (K.faults sink.old) (K.faults sink.new) }
-        ensures steady { K.never_fails sink.old → K.never_fails sink.new × (result ≢ Turn.Ended RunEnd.SinkFault) }
+        ensures failed { result ≡ PieceOutcome.Ended RunEnd.SinkFault → Rose (K.faults sink.old) (K.faults sink.new) }
+        ensures steady { K.never_fails sink.old → K.never_fails sink.new
+            × (result ≢ PieceOutcome.Ended RunEnd.SinkFault) }
     {
         match self.feed(alloc, sink, piece, steps) {
-            Fed::Done => Turn::Took(piece.len()),
-            Fed::Faulty(reason) => Turn::Ended(self.fault(sink, reason)),
-            Fed::SinkFailed => Turn::Ended(RunEnd::SinkFault),
-            Fed::NoMemory => Turn::Ended(RunEnd::NoMemory),
+            Fed::Done => PieceOutcome::Read(piece.len()),
+            Fed::Faulty(reason) => PieceOutcome::Ended(self.fault(sink, reason)),
+            Fed::SinkFailed => PieceOutcome::Ended(RunEnd::SinkFault),
+            Fed::NoMemory => PieceOutcome::Ended(RunEnd::NoMemory),
         }
     }
 
-    /// Writes the fault of the line that was not taken.
+    /// Writes the fault of the line that was not run.
     pub(crate) fn fault<K: Sink>(&mut self, sink: &mut K, reason: ScriptReason) -> RunEnd
-        requires { self.old.taken ≤ limit }
-        ensures closes { ClosesAs result (K.written sink.old) (K.written sink.new) (Some (self.old.taken + 1, reason_of reason)) }
+        requires { self.old.lines_read ≤ limit }
+        ensures closes { ClosesAs result (K.written sink.old) (K.written sink.new)
+            (Some (self.old.lines_read + 1, reason)) }
         ensures later { K.faults sink.old ≤ K.faults sink.new }
         ensures failed { result ≡ RunEnd.SinkFault → Rose (K.faults sink.old) (K.faults sink.new) }
         ensures steady { K.never_fails sink.old → K.never_fails sink.new × (result ≢ RunEnd.SinkFault) }
     {
-        let line = self.taken + 1;
+        let line = self.lines_read + 1;
         self.out.clear();
         if write_fault(&mut self.out, line, reason).is_err() {
             return RunEnd::NoMemory;
@@ -176,7 +199,9 @@ impl Reader {
 
     /// Whether the script may not end here: within a line, or within its metadata.
     fn is_cut(&self) -> bool
-        ensures { (reading : Reading) → StandsAt self.now.progress self.now.taken reading → ended (self.now.taken + 1) self.now.line.items reading ≡ (if result then Some (self.now.taken + 1, Cut) else None) }
+        ensures { (reading : Reading) → StandsAt self.now.progress self.now.lines_read reading →
+            ended (self.now.lines_read + 1) self.now.line.items reading
+            ≡ (if result then Some (self.now.lines_read + 1, Cut) else None) }
     {
         match &self.progress {
             Progress::Heading(_) => true,
@@ -186,8 +211,10 @@ impl Reader {
 
     /// The script ends here.
     pub(crate) fn finish<K: Sink>(&mut self, sink: &mut K) -> RunEnd
-        requires { self.old.taken ≤ limit }
-        ensures closes { (reading : Reading) → StandsAt self.old.progress self.old.taken reading → ClosesAs result (K.written sink.old) (K.written sink.new) (ended (self.old.taken + 1) self.old.line.items reading) }
+        requires { self.old.lines_read ≤ limit }
+        ensures closes { (reading : Reading) → StandsAt self.old.progress self.old.lines_read reading →
+            ClosesAs result (K.written sink.old) (K.written sink.new)
+            (ended (self.old.lines_read + 1) self.old.line.items reading) }
         ensures later { K.faults sink.old ≤ K.faults sink.new }
         ensures failed { result ≡ RunEnd.SinkFault → Rose (K.faults sink.old) (K.faults sink.new) }
         ensures steady { K.never_fails sink.old → K.never_fails sink.new × (result ≢ RunEnd.SinkFault) }

@@ -3,10 +3,10 @@ ghost use Rattle.outside.specs.Ends.{Rose, Takes, HasCause};
 ghost use Rattle.model.specs.Script.{limit, outcome, output};
 ghost use Rattle.subs_run.specs.Runs.{EndsAs, IsToldWhole, HasRead, ReadWhole, WroteWholeLines, WroteFront, AtMost};
 ghost use Rattle.subs_run.specs.Standing.{HasRoom};
-ghost use Rattle.subs_run.specs.Turns.{IsAt, TurnedTo, ClosedAs};
+ghost use Rattle.subs_run.specs.Pieces.{Ends, ends, IsAt, LeadsTo, ClosedAs};
 
 use crate::answer::{RunEnd, ScriptReason};
-use crate::reader::{Reader, Turn};
+use crate::reader::{PieceOutcome, Reader};
 use outside::{Got, Sink, Source};
 use scalar_val::Steps;
 use std::alloc::Global;
@@ -26,26 +26,35 @@ pub fn run_script<S: Source, K: Sink, L: Ledger>(
     steps: &mut Steps<L>,
 ) -> RunEnd
     // Done: the whole input was read, and no line is at fault. ScriptFault: this is the fault.
-    ensures done { result ≡ RunEnd.Done → (all : List ℕ) → S.left source.old ≡ Some all → ReadWhole all (S.left source.new) }
+    ensures done { result ≡ RunEnd.Done → (all : List ℕ) → S.left source.old ≡ Some all →
+        ReadWhole all (S.left source.new) }
     ensures fault { (all : List ℕ) → S.left source.old ≡ Some all → EndsAs result (outcome all).fault }
-    ensures whole { IsToldWhole result → (all w : List ℕ) → S.left source.old ≡ Some all → K.written sink.old ≡ Some w → K.written sink.new ≡ Some (w ++ output all) }
+    ensures whole { IsToldWhole result → (all w : List ℕ) → S.left source.old ≡ Some all → K.written sink.old ≡ Some w →
+        K.written sink.new ≡ Some (w ++ output all) }
 
     // The source failed. What was written is the transcript of the lines that were whole, none of them at fault.
     ensures source_fault { result ≡ RunEnd.SourceFault → Rose (S.faults source.old) (S.faults source.new) }
-    ensures source_lines { result ≡ RunEnd.SourceFault → (all w : List ℕ) → S.left source.old ≡ Some all → K.written sink.old ≡ Some w → WroteWholeLines all w (S.left source.new) (K.written sink.new) }
+    ensures source_lines { result ≡ RunEnd.SourceFault → (all w : List ℕ) → S.left source.old ≡ Some all →
+        K.written sink.old ≡ Some w → WroteWholeLines all w (S.left source.new) (K.written sink.new) }
 
     // The sink failed. What was written is a front of the output, as for want of memory.
     ensures sink_fault { result ≡ RunEnd.SinkFault → Rose (K.faults sink.old) (K.faults sink.new) }
-    ensures front { (result ≡ RunEnd.SinkFault) ⊎ (result ≡ RunEnd.NoMemory) → (all w : List ℕ) → S.left source.old ≡ Some all → K.written sink.old ≡ Some w → WroteFront (output all) w (K.written sink.new) }
+    ensures front { (result ≡ RunEnd.SinkFault) ⊎ (result ≡ RunEnd.NoMemory) → (all w : List ℕ) →
+        S.left source.old ≡ Some all → K.written sink.old ≡ Some w → WroteFront (output all) w (K.written sink.new) }
 
     // No more than one byte past the limit is read.
     ensures reads { (all : List ℕ) → S.left source.old ≡ Some all → HasRead all (S.left source.new) }
 
-    // Ends that tell that they never fail bring neither fault.
-    ensures complete { S.never_fails source.old → K.never_fails sink.old → (result ≢ RunEnd.SourceFault) × (result ≢ RunEnd.SinkFault) }
+    // A source that tells that it never fails brings no fault of its own, whatever the sink does, and so does a sink.
+    ensures source_steady { S.never_fails source.old → result ≢ RunEnd.SourceFault }
+    ensures sink_steady { K.never_fails sink.old → result ≢ RunEnd.SinkFault }
+    ensures complete { S.never_fails source.old → K.never_fails sink.old → (result ≢ RunEnd.SourceFault)
+        × (result ≢ RunEnd.SinkFault) }
 
     // Then a script without a fault is run whole.
-    ensures answered { S.never_fails source.old → K.never_fails sink.old → (all : List ℕ) → S.left source.old ≡ Some all → (outcome all).fault ≡ None → (result ≡ RunEnd.Done) ⊎ (result ≡ RunEnd.NoMemory) }
+    ensures answered { S.never_fails source.old → K.never_fails sink.old → (all : List ℕ) →
+        S.left source.old ≡ Some all → (outcome all).fault ≡ None → (result ≡ RunEnd.Done)
+        ⊎ (result ≡ RunEnd.NoMemory) }
 {
     let mut reader = Reader::new(alloc);
     let mut buf = [0u8; PIECE];
@@ -62,24 +71,27 @@ fn run_from<S: Source, K: Sink, L: Ledger>(
     steps: &mut Steps<L>,
 ) -> RunEnd
     requires some { 0 < length buf.old }
-    requires at { IsAt (S.left source.old) (S.left source.old) (K.written sink.old) (K.written sink.old) reader.old 0 }
-    ensures closed { ClosedAs result (S.left source.old) (S.left source.new) (K.written sink.old) (K.written sink.new) }
+    requires at { IsAt (ends (S.left source.old) (K.written sink.old)) (ends (S.left source.old) (K.written sink.old))
+        reader.old 0 }
+    ensures closed { ClosedAs result (ends (S.left source.old) (K.written sink.old))
+        (ends (S.left source.new) (K.written sink.new)) }
     ensures source_fault { result ≡ RunEnd.SourceFault → Rose (S.faults source.old) (S.faults source.new) }
     ensures sink_fault { result ≡ RunEnd.SinkFault → Rose (K.faults sink.old) (K.faults sink.new) }
-    ensures complete { S.never_fails source.old → K.never_fails sink.old → (result ≢ RunEnd.SourceFault) × (result ≢ RunEnd.SinkFault) }
+    ensures source_steady { S.never_fails source.old → result ≢ RunEnd.SourceFault }
+    ensures sink_steady { K.never_fails sink.old → result ≢ RunEnd.SinkFault }
 {
     let mut count = 0;
     while count < LIMIT {
-        match turn(alloc, source, sink, reader, buf, count, steps) {
-            Turn::Took(got) => count += got,
-            Turn::Ended(end) => return end,
+        match run_piece(alloc, source, sink, reader, buf, count, steps) {
+            PieceOutcome::Read(got) => count += got,
+            PieceOutcome::Ended(end) => return end,
         }
     }
-    last_turn(source, sink, reader, buf)
+    run_last_piece(source, sink, reader, buf)
 }
 
 /// Reads one piece, and takes it.
-fn turn<S: Source, K: Sink, L: Ledger>(
+fn run_piece<S: Source, K: Sink, L: Ledger>(
     alloc: Global,
     source: &mut S,
     sink: &mut K,
@@ -87,28 +99,32 @@ fn turn<S: Source, K: Sink, L: Ledger>(
     buf: &mut [u8],
     count: usize,
     steps: &mut Steps<L>,
-) -> Turn
+) -> PieceOutcome
     requires some { 0 < length buf.old }
     requires few { count < limit }
     requires room { HasRoom reader.old (limit - count) }
-    ensures turned { (left written : Option (List ℕ)) → IsAt left (S.left source.old) written (K.written sink.old) reader.old count → TurnedTo result left (S.left source.new) written (K.written sink.new) reader.new count }
+    ensures leads { (start : Ends) → IsAt start (ends (S.left source.old) (K.written sink.old)) reader.old count →
+        LeadsTo result start (ends (S.left source.new) (K.written sink.new)) reader.new count }
     ensures source_later { S.faults source.old ≤ S.faults source.new }
     ensures sink_later { K.faults sink.old ≤ K.faults sink.new }
-    ensures source_fault { result ≡ Turn.Ended RunEnd.SourceFault → Rose (S.faults source.old) (S.faults source.new) }
-    ensures sink_fault { result ≡ Turn.Ended RunEnd.SinkFault → Rose (K.faults sink.old) (K.faults sink.new) }
-    ensures source_steady { S.never_fails source.old → S.never_fails source.new × (result ≢ Turn.Ended RunEnd.SourceFault) }
-    ensures sink_steady { K.never_fails sink.old → K.never_fails sink.new × (result ≢ Turn.Ended RunEnd.SinkFault) }
+    ensures source_fault { result ≡ PieceOutcome.Ended RunEnd.SourceFault →
+        Rose (S.faults source.old) (S.faults source.new) }
+    ensures sink_fault { result ≡ PieceOutcome.Ended RunEnd.SinkFault → Rose (K.faults sink.old) (K.faults sink.new) }
+    ensures source_steady { S.never_fails source.old → S.never_fails source.new
+        × (result ≢ PieceOutcome.Ended RunEnd.SourceFault) }
+    ensures sink_steady { K.never_fails sink.old → K.never_fails sink.new
+        × (result ≢ PieceOutcome.Ended RunEnd.SinkFault) }
 {
     let most = buf.len().min(LIMIT - count);
     match read_piece(source, buf, most) {
         Got::Bytes(got) => reader.take(alloc, sink, &buf[..got], steps),
-        Got::End => Turn::Ended(reader.finish(sink)),
-        Got::Failed => Turn::Ended(RunEnd::SourceFault),
+        Got::End => PieceOutcome::Ended(reader.finish(sink)),
+        Got::Failed => PieceOutcome::Ended(RunEnd::SourceFault),
     }
 }
 
 /// The script has as many bytes as it may have: it ends here, or it is too long.
-fn last_turn<S: Source, K: Sink>(
+fn run_last_piece<S: Source, K: Sink>(
     source: &mut S,
     sink: &mut K,
     reader: &mut Reader,
@@ -116,7 +132,8 @@ fn last_turn<S: Source, K: Sink>(
 ) -> RunEnd
     requires some { 0 < length buf.old }
     requires room { HasRoom reader.old 0 }
-    ensures closed { (left written : Option (List ℕ)) → IsAt left (S.left source.old) written (K.written sink.old) reader.old limit → ClosedAs result left (S.left source.new) written (K.written sink.new) }
+    ensures closed { (start : Ends) → IsAt start (ends (S.left source.old) (K.written sink.old)) reader.old limit →
+        ClosedAs result start (ends (S.left source.new) (K.written sink.new)) }
     ensures source_later { S.faults source.old ≤ S.faults source.new }
     ensures source_fault { result ≡ RunEnd.SourceFault → Rose (S.faults source.old) (S.faults source.new) }
     ensures sink_fault { result ≡ RunEnd.SinkFault → Rose (K.faults sink.old) (K.faults sink.new) }

@@ -12,7 +12,8 @@ use Rattle.serde_json.specs.View.{view, members_view}
 use Rattle.serde_json.proofs.Views.{Entry}
 use Rattle.data_model.specs.declared.transaction.TxCell.{TxCell}
 use Rattle.data_model.specs.Cells.{ascend}
-use Rattle.data_model.specs.Form.{cell_of, cells_from, count, scalar_of}
+use Rattle.data_model.specs.JsonParts.{scalar_or_null}
+use Rattle.data_model.specs.Form.{cell_of, cells_from, count}
 
 pub and_true : (b : Bool) → (b && true) ≡ b
 and_true true = refl
@@ -86,7 +87,7 @@ name_ascends cells name it rest e iter named rises =
     let at_e = subst (λ (es : List Entry). IsTrue (ascend (map (λ c. c.column) cells ++ map (λ e. string_bytes e.0) es))) iter rises in
     subst (λ (n : List ℕ). IsTrue (ascend (map (λ c. c.column) cells ++ n ∷ []))) (sym named) (next_ascends (map (λ c. c.column) cells) (string_bytes e.0) (map (λ e. string_bytes e.0) rest) at_e)
 
-pub read_more : (cells more : List TxCell) (it rest : List Entry) (e : Entry) (name : List ℕ) (value : Val) (all : Option (List TxCell)) → it ≡ e ∷ rest → name ≡ string_bytes e.0 → Some value ≡ scalar_of (view e.1) → more ≡ cells ++ cell_of name value ∷ [] → option_map (λ r. cells ++ r) (cells_from (members_view it)) ≡ all → option_map (λ r. more ++ r) (cells_from (members_view rest)) ≡ all
+pub read_more : (cells more : List TxCell) (it rest : List Entry) (e : Entry) (name : List ℕ) (value : Val) (all : Option (List TxCell)) → it ≡ e ∷ rest → name ≡ string_bytes e.0 → Some value ≡ scalar_or_null (view e.1) → more ≡ cells ++ cell_of name value ∷ [] → option_map (λ r. cells ++ r) (cells_from (members_view it)) ≡ all → option_map (λ r. more ++ r) (cells_from (members_view rest)) ≡ all
 read_more cells more it rest e name value all iter named some pushed told =
     let later = cells_from (members_view rest) in
     let at_e = subst (λ (es : List Entry). option_map (λ r. cells ++ r) (cells_from (members_view es)) ≡ all) iter told in

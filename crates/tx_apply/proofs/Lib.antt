@@ -1,4 +1,3 @@
 pub mod Lists
-pub mod Gives
 pub mod Changes
 pub mod InOrder

@@ -13,7 +13,7 @@ use scalar_val::{NoMemory, Steps};
 use std::alloc::Global;
 use std::sync::ledger::Ledger;
 
-#[tactic(auto, using(crate::proofs::Gives::row_given_fits, crate::proofs::Gives::insert_answers))]
+#[tactic(auto, using(data_model::proofs::Gives::row_given_fits, data_model::proofs::Gives::insert_answers))]
 fn insert_change<L: Ledger>(
     alloc: Global,
     table: &TableDef,
@@ -37,7 +37,7 @@ fn insert_change<L: Ledger>(
     Ok(reason_of(snapshot.insert(alloc, at, cells, steps)?))
 }
 
-#[tactic(auto, using(crate::proofs::Gives::set_given_stands, crate::proofs::Gives::update_answers))]
+#[tactic(auto, using(data_model::proofs::Gives::set_given_stands, data_model::proofs::Gives::update_answers))]
 fn update_change<L: Ledger>(
     alloc: Global,
     table: &TableDef,
@@ -63,7 +63,7 @@ fn update_change<L: Ledger>(
     Ok(reason_of(snapshot.update(alloc, at, values.as_slice(), cells.as_slice(), steps)?))
 }
 
-#[tactic(auto, using(crate::proofs::Gives::delete_first))]
+#[tactic(auto, using(data_model::proofs::Gives::delete_first))]
 fn delete_change<L: Ledger>(
     alloc: Global,
     table: &TableDef,

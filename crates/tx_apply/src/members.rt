@@ -1,10 +1,11 @@
-ghost use Rattle.std.specs.Prelude.{◌≡◌, [], ◌∷◌, ◌++◌, map, option_map, is_some, IsTrue, IfOk, OnOk};
+ghost use Rattle.std.specs.Prelude.{◌≡◌, [], ◌∷◌, ◌++◌, map, is_some, IsTrue, IfOk, OnOk};
 ghost use Rattle.serde_json.specs.Find.{as_str, get_member};
 ghost use Rattle.serde_json.specs.View.{view, members_view};
 ghost use Rattle.data_model.specs.Cells.{ascend, is_scalar};
-ghost use Rattle.data_model.specs.Form.{cell_of, cells_at, cells_from, cells_of, count, scalar_of, text_at};
+ghost use Rattle.data_model.specs.JsonParts.{scalar_or_null};
+ghost use Rattle.data_model.specs.Form.{cell_of, cells_at, cells_from, cells_of, count, text_at};
 
-use data_model::{TxCell, TxCells};
+use data_model::{TxCell, TxCells, member, read_scalar_or_null};
 use scalar_val::{NoMemory, Str, Val};
 use serde_json::{Map, Value};
 use std::alloc::Global;
@@ -15,13 +16,6 @@ pub(crate) fn count(map: &Map<String, Value>) -> usize
     ensures { result ≡ count (members_view map.now.entries) }
 {
     map.len()
-}
-
-/// The value of a key.
-fn member<'a>(map: &'a Map<String, Value>, name: &str) -> Option<&'a Value>
-    ensures { option_map (λ v. view v.now) result ≡ get_member name.now (members_view map.now.entries) }
-{
-    map.get(name)
 }
 
 /// Whether an object has a key.
@@ -77,22 +71,6 @@ fn read_cells(alloc: Global, value: &Value) -> Result<Option<TxCells>, NoMemory>
     }
 }
 
-/// Null, a boolean, an integer of 64 bits, or a string; `-0` is none, since it is a float.
-fn read_scalar(alloc: Global, value: &Value) -> Result<Option<Val>, NoMemory>
-    ensures { IfOk result (λ o. o ≡ scalar_of (view value.now)) }
-{
-    match value {
-        Value::Null => Ok(Some(Val::Null)),
-        Value::Bool(truth) => Ok(Some(Val::Bool(*truth))),
-        Value::Number(number) => match number.as_i64() {
-            Some(number) => Ok(Some(Val::Big(number))),
-            None => Ok(None),
-        },
-        Value::String(text) => Ok(Some(Val::Text(Str::of(alloc, text.as_str())?))),
-        _ => Ok(None),
-    }
-}
-
 /// Adds a cell whose name comes after all others by bytes.
 fn add_cell(alloc: Global, cells: &mut TxCells, name: &str, value: Val) -> Result<(), NoMemory>
     requires names { IsTrue (ascend (map (λ c. c.column) cells.old ++ name.now ∷ [])) }
@@ -113,7 +91,7 @@ fn read_members(alloc: Global, map: &Map<String, Value>) -> Result<Option<TxCell
 {
     let mut cells = TxCells::new(alloc);
     'members: for (name, value) in map.iter() {
-        let Some(value) = read_scalar(alloc, value)? else {
+        let Some(value) = read_scalar_or_null(alloc, value)? else {
             return Ok(None);
         };
         add_cell(alloc, &mut cells, name.as_str(), value)?;

@@ -2,7 +2,7 @@ ghost use Rattle.std.specs.Prelude.{◌≡◌, ◌++◌, IfOk};
 ghost use Rattle.std.specs.List.{list_any};
 ghost use Rattle.data_model.specs.Transactions.{is_wrong, is_null_wrongly};
 ghost use Rattle.row_store.specs.Stored.{reason_of};
-ghost use Rattle.tx_apply.specs.Naming.{insert_naming, update_naming, delete_naming};
+ghost use Rattle.data_model.specs.Naming.{insert_naming, update_naming, delete_naming};
 
 use crate::naming::{all_may_set, all_name_one, name_exactly_key};
 use crate::values::{any_lacks, any_null_wrongly, any_wrong};
@@ -32,7 +32,7 @@ pub(crate) fn insert_naming(
     Ok(None)
 }
 
-#[tactic(auto, using(crate::proofs::Lists::any_of_both))]
+#[tactic(auto, using(data_model::proofs::Found::any_of_both))]
 fn wrong_in(
     alloc: Global,
     columns: &[Column],
@@ -47,7 +47,7 @@ fn wrong_in(
     any_wrong(alloc, columns, set)
 }
 
-#[tactic(auto, using(crate::proofs::Lists::any_of_both))]
+#[tactic(auto, using(data_model::proofs::Found::any_of_both))]
 fn null_in(columns: &[Column], key: &[TxCell], set: &[TxCell]) -> bool
     ensures { result ≡ list_any (is_null_wrongly columns.now) (key.now ++ set.now) }
 {

@@ -1,23 +1,13 @@
 ghost use Rattle.std.specs.Prelude.{◌≡◌, ◌++◌, not, ◌&&◌, map, unwrap_or, option_map, is_some, is_none, slice_get, IfOk, OnOk};
 ghost use Rattle.std.specs.List.{find, list_any};
 ghost use Rattle.scalar_val.specs.Spellings.{fitted};
-ghost use Rattle.data_model.specs.Rows.{is_null};
 ghost use Rattle.data_model.specs.Transactions.{is_column, given, row_given, key_given, set_at, set_given, is_wrong, is_null_wrongly, lacks, value_in};
-ghost use Rattle.tx_apply.specs.Naming.{given_at};
+ghost use Rattle.data_model.specs.Naming.{given_at};
 
 use crate::naming::{cell_of, column_place, is_named};
 use data_model::{Column, ColumnDefList, SetCell, TableDef, TxCell};
 use scalar_val::{List, NoMemory, ReadFault, Val, copy_val, fit_scalar};
 use std::alloc::Global;
-
-fn is_null(value: &Val) -> bool
-    ensures { result ≡ is_null value.now }
-{
-    match value {
-        Val::Null => true,
-        _ => false,
-    }
-}
 
 /// What a cell gives its column: null, or what the scalar is in the column's kind, and null where it doesn't fit.
 fn value_in(alloc: Global, column: &Column, value: &Val) -> Result<Val, NoMemory>
@@ -156,7 +146,7 @@ fn misfits(alloc: Global, column: &Column, cell: &TxCell) -> Result<bool, NoMemo
 fn is_wrong(alloc: Global, columns: &[Column], cell: &TxCell) -> Result<bool, NoMemory>
     ensures { IfOk result (λ wrong. wrong ≡ is_wrong columns.now cell.now) }
 {
-    if is_null(&cell.value) {
+    if cell.value.is_null() {
         return Ok(false);
     }
     for column in columns {
@@ -193,7 +183,7 @@ fn refuses_null(column: &Column, cell: &TxCell) -> bool
 fn is_null_wrongly(columns: &[Column], cell: &TxCell) -> bool
     ensures { result ≡ is_null_wrongly columns.now cell.now }
 {
-    if !is_null(&cell.value) {
+    if !cell.value.is_null() {
         return false;
     }
     for column in columns {
@@ -224,7 +214,7 @@ fn lacks(alloc: Global, cells: &[TxCell], column: &Column) -> Result<bool, NoMem
         return Ok(false);
     }
     let value = given(alloc, cells, column)?;
-    Ok(is_null(&value))
+    Ok(value.is_null())
 }
 
 /// Whether cells give one of the columns null that isn't nullable.

@@ -1,3 +1,4 @@
 pub mod WorkedMessages
 pub mod WorkedCloses
 pub mod WorkedScripts
+pub mod Cut

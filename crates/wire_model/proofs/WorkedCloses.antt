@@ -6,7 +6,9 @@ use Rattle.role_model.specs.declared.metadata.Metadata.{Metadata}
 use Rattle.role_model.specs.declared.session.Identity.{Identity}
 use Rattle.role_model.specs.declared.session.Identity.TheVariants.{Allowed, Forbidden as refused}
 use Rattle.wire_model.specs.ClientMessages.{ClientMessage, Init, message}
-use Rattle.wire_model.specs.CloseReasons.{CloseReason, Invalid, Unauthorized, InitTimeout, TooManyInits, code, reason, close_exists}
+use Rattle.wire_model.specs.CloseReasons.{code, reason, close_exists, exists_text}
+use Rattle.wire_model.specs.declared.close.CloseReason.{CloseReason}
+use Rattle.wire_model.specs.declared.close.CloseReason.TheVariants.{Invalid, Unauthorized, InitTimeout, TooManyInits}
 use Rattle.wire_model.specs.Steps.{action, closes_with, on_timeout}
 use Rattle.wire_model.specs.declared.step.Phase.{Phase}
 use Rattle.wire_model.specs.declared.step.Phase.TheVariants.{Fresh, Acked, Closed}
@@ -17,6 +19,7 @@ abbrev told : CloseReason → ℕ × List ℕ
 told r = (code r, reason r)
 
 pub live_id : told (close_exists (codes "a")) ≡ (4409, codes "Subscriber for a already exists")
+unfolding exists_text
 live_id = refl
 
 -- 107 letters, then a character of two bytes that byte 123 would cut, and one more letter
@@ -24,20 +27,25 @@ abbrev long_id : List ℕ
 long_id = replicate 107 97 ++ 195 ∷ 169 ∷ 122 ∷ []
 
 pub cut_reason : told (close_exists long_id) ≡ (4409, codes "Subscriber for " ++ replicate 107 97)
+unfolding exists_text
 cut_reason = refl
 
 -- one letter less, and the character fits
 pub whole_character : told (close_exists (replicate 106 97 ++ 195 ∷ 169 ∷ 122 ∷ [])) ≡ (4409, codes "Subscriber for " ++ replicate 106 97 ++ 195 ∷ 169 ∷ [])
+unfolding exists_text
 whole_character = refl
 
 -- characters of three and of four bytes that byte 123 would cut
 pub three_bytes : told (close_exists (replicate 106 97 ++ 226 ∷ 130 ∷ 172 ∷ [])) ≡ (4409, codes "Subscriber for " ++ replicate 106 97)
+unfolding exists_text
 three_bytes = refl
 
 pub four_bytes : told (close_exists (replicate 107 97 ++ 240 ∷ 159 ∷ 152 ∷ 128 ∷ [])) ≡ (4409, codes "Subscriber for " ++ replicate 107 97)
+unfolding exists_text
 four_bytes = refl
 
 pub longest_id : told (close_exists (replicate 93 97)) ≡ (4409, codes "Subscriber for " ++ replicate 93 97 ++ codes " already exists")
+unfolding exists_text
 longest_id = refl
 
 -- the close that a text brings, in a phase, where its id is or isn't live

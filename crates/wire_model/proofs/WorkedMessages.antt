@@ -1,10 +1,11 @@
 -- Worked rows of the messages of clients and servers, which compute.
-use Rattle.std.specs.Prelude.{◌≡◌, ◌++◌, [], Some, None, refl, replicate, true, codes}
+use Rattle.std.proofs.Common.{Bor}
+use Rattle.std.specs.Prelude.{◌≡◌, ℕ, List, ◌++◌, [], Some, None, refl, replicate, true, codes}
 use Rattle.json.specs.Print.{escape_byte}
 use Rattle.serde_json.proofs.OnLiterals.{serde_json_on_literals}
 use Rattle.serde_json.specs.Data.{null, boolean, string, object, no_members, member}
 use Rattle.wire_model.specs.ClientMessages.{Init, Subscribe, Complete, Ping, Pong, Bad, message}
-use Rattle.wire_model.specs.ServerMessages as server
+use Rattle.wire_model.specs.declared.server.ServerMsg.TheVariants as server
 use Rattle.wire_model.specs.ServerMessages.{written}
 
 -- an init without a payload, and with one that is null
@@ -151,23 +152,26 @@ pub too_deep : message (codes "{\"type\":\"ping\",\"more\":" ++ replicate 127 91
 unfolding serde_json_on_literals
 too_deep = refl
 
--- the texts of servers
+-- the texts of servers; where a message keeps its texts doesn't count
+abbrev shown : List ℕ → Bor (List ℕ)
+shown text = record { ref_ptr = (0, 0); now = text }
+
 pub acknowledged : written server.Ack ≡ codes "{\"type\":\"connection_ack\"}"
 acknowledged = refl
 
 pub answered_ping : written server.Pong ≡ codes "{\"type\":\"pong\"}"
 answered_ping = refl
 
-pub next_result : written (server.Next (codes "a") (codes "{\"data\":{\"user\":[]}}")) ≡ codes "{\"type\":\"next\",\"id\":\"a\",\"payload\":{\"data\":{\"user\":[]}}}"
+pub next_result : written (server.Next (shown (codes "a")) (shown (codes "{\"data\":{\"user\":[]}}"))) ≡ codes "{\"type\":\"next\",\"id\":\"a\",\"payload\":{\"data\":{\"user\":[]}}}"
 unfolding escape_byte
 next_result = refl
 
-pub completed : written (server.Complete (codes "q\"")) ≡ codes "{\"type\":\"complete\",\"id\":\"q\\\"\"}"
+pub completed : written (server.Complete (shown (codes "q\""))) ≡ codes "{\"type\":\"complete\",\"id\":\"q\\\"\"}"
 unfolding escape_byte
 completed = refl
 
 pub refused :
-    written (server.Error (codes "h") (codes "no such field: note") (codes "NoField"))
+    written (server.Error (shown (codes "h")) (shown (codes "no such field: note")) (shown (codes "NoField")))
     ≡ codes "{\"type\":\"error\",\"id\":\"h\",\"payload\":[{\"message\":\"no such field: note\",\"extensions\":{\"code\":\"NoField\"}}]}"
 unfolding escape_byte
 refused = refl

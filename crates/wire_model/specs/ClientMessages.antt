@@ -1,10 +1,24 @@
 -- What clients say: the messages of the `graphql-transport-ws` protocol, over what `serde_json` reads of a text, in which
 -- an object has each key once, with the value of its last pair. The limit of a text's length is this project's own.
-use Rattle.std.specs.Prelude.{ℕ, nat_lt, if◌then◌else◌, List, length, unwrap_or, Option, Some, None, option_map, option_and_then, codes}
+use Rattle.std.specs.Prelude.{
+  ℕ,
+  nat_lt,
+  if◌then◌else◌,
+  List,
+  length,
+  unwrap_or,
+  Option,
+  Some,
+  None,
+  option_map,
+  option_and_then,
+  codes,
+}
 use Rattle.std.specs.Str.{bytes_eq}
 use Rattle.serde_json.specs.Data.{Data, null, object, Members}
 use Rattle.serde_json.specs.Find.{as_str, as_object, get_member}
 use Rattle.serde_json.specs.Read.{read}
+use Rattle.data_model.specs.JsonParts.{required}
 
 -- What a `subscribe` asks for. The variables are an object, or null where there are none.
 pub record Request : Type 0 where
@@ -20,10 +34,6 @@ pub data ClientMessage : Type 0 where
   Ping : ClientMessage
   Pong : ClientMessage
   Bad : ClientMessage
-
--- the value of a required key, in its form
-abbrev pub required : {A : Type 0} → (Data → Option A) → List ℕ → Members → Option A
-required form key ms = option_and_then form (get_member key ms)
 
 abbrev pub absent_or : {A : Type 0} → (Data → Option A) → Option Data → Option (Option A)
 absent_or form None = Some None
@@ -56,7 +66,8 @@ abbrev pub request_of : Data → Option Request
 request_of d = option_and_then request_form (as_object d)
 
 abbrev pub subscribe_form : Members → Option ClientMessage
-subscribe_form ms = option_and_then (λ id. option_map (Subscribe id) (required request_of (codes "payload") ms)) (required as_str (codes "id") ms)
+subscribe_form ms = option_and_then (λ id. option_map (Subscribe id) (required request_of (codes "payload") ms))
+    (required as_str (codes "id") ms)
 
 abbrev pub complete_form : Members → Option ClientMessage
 complete_form ms = option_map Complete (required as_str (codes "id") ms)

@@ -1,16 +1,31 @@
 -- The codes and reasons with which a server closes a connection (the `graphql-transport-ws` protocol). A reason has at
 -- most 123 bytes (RFC 6455, section 5.5). That it is cut to whole characters, and the reason `Invalid message`, are this
 -- project's own.
-use Rattle.std.specs.Prelude.{ℕ, zero, suc, Bool, ◌&&◌, nat_le, nat_lt, if◌then◌else◌, List, ◌++◌, length, take, slice_index, codes}
-
--- `Exists` has its whole reason, in which the subscription's id stands.
-pub data CloseReason : Type 0 where
-  Invalid : CloseReason
-  Unauthorized : CloseReason
-  Forbidden : CloseReason
-  InitTimeout : CloseReason
-  Exists : (text : List ℕ) → CloseReason
-  TooManyInits : CloseReason
+use Rattle.std.specs.Prelude.{
+  ℕ,
+  zero,
+  suc,
+  Bool,
+  ◌&&◌,
+  nat_le,
+  nat_lt,
+  if◌then◌else◌,
+  List,
+  ◌++◌,
+  length,
+  take,
+  slice_index,
+  codes,
+}
+use Rattle.wire_model.specs.declared.close.CloseReason.{CloseReason}
+use Rattle.wire_model.specs.declared.close.CloseReason.TheVariants.{
+  Invalid,
+  Unauthorized,
+  Forbidden,
+  InitTimeout,
+  Exists,
+  TooManyInits,
+}
 
 abbrev pub code : CloseReason → ℕ
 code Invalid = 4400
@@ -45,6 +60,10 @@ within n text = if nat_le (length text) n then text else take (boundary text n) 
 abbrev pub most_bytes : ℕ
 most_bytes = 123
 
--- the reason why a second subscription with an id that is live is refused
+-- the reason, uncut, of the close for a second subscription whose id is live
+unfoldable pub exists_text : List ℕ → List ℕ
+exists_text id = codes "Subscriber for " ++ id ++ codes " already exists"
+
+-- the close for a second subscription whose id is live, with its reason cut
 abbrev pub close_exists : List ℕ → CloseReason
-close_exists id = Exists (within most_bytes (codes "Subscriber for " ++ id ++ codes " already exists"))
+close_exists id = Exists (within most_bytes (exists_text id))

@@ -21,7 +21,8 @@ metadata_lines =
 
 -- user i is called `u` and its number
 abbrev pub insert_text : ℕ → List ℕ
-insert_text i = codes "{\"insert\":\"user\",\"row\":{\"id\":" ++ decimal i ++ codes ",\"name\":\"u" ++ decimal i ++ codes "\"}}"
+insert_text i = codes "{\"insert\":\"user\",\"row\":{\"id\":" ++ decimal i ++ codes ",\"name\":\"u" ++ decimal i
+    ++ codes "\"}}"
 
 -- one transaction inserts users 1 to n, with a comma between two
 abbrev pub insert_line : ℕ → Line
@@ -40,7 +41,8 @@ subscribe_line n c =
 -- connection c opens, is acknowledged and subscribes
 abbrev pub connection_lines : ℕ → ℕ → List Line
 connection_lines n c =
-    (codes "open " ++ decimal c) ∷ (codes "recv " ++ decimal c ++ codes " {\"type\":\"connection_init\"}") ∷ subscribe_line n c ∷ []
+    (codes "open " ++ decimal c) ∷ (codes "recv " ++ decimal c ++ codes " {\"type\":\"connection_init\"}")
+    ∷ subscribe_line n c ∷ []
 
 -- the user whose name round r changes
 abbrev pub changed : ℕ → ℕ → ℕ
@@ -48,7 +50,8 @@ changed n r = 1 + (r * r) % n
 
 abbrev pub update_line : ℕ → ℕ → Line
 update_line n r =
-    codes "commit [{\"update\":\"user\",\"key\":{\"id\":" ++ decimal (changed n r) ++ codes "},\"set\":{\"name\":\"r" ++ decimal r ++ codes "\"}}]"
+    codes "commit [{\"update\":\"user\",\"key\":{\"id\":" ++ decimal (changed n r) ++ codes "},\"set\":{\"name\":\"r"
+    ++ decimal r ++ codes "\"}}]"
 
 -- a change of one name, and a poll
 abbrev pub round_lines : ℕ → ℕ → List Line
@@ -75,4 +78,5 @@ line_count text = length (filter (λ b. b == 10) text)
 -- what is written for the script of n subscribers, by the transcript that a run of it gives
 abbrev pub summary_line : ℕ → List ℕ → List ℕ
 summary_line n transcript =
-    codes "load " ++ decimal n ++ codes " lines " ++ decimal (line_count transcript) ++ codes " sha256 " ++ encode_lower (sha256 transcript) ++ 10 ∷ []
+    codes "load " ++ decimal n ++ codes " lines " ++ decimal (line_count transcript) ++ codes " sha256 "
+    ++ encode_lower (sha256 transcript) ++ 10 ∷ []

@@ -1,8 +1,9 @@
 -- What the events of a connection ask of the server, by its phase (the `graphql-transport-ws` protocol).
 use Rattle.std.specs.Prelude.{ℕ, Bool, List, if◌then◌else◌, Option, Some, None}
 use Rattle.wire_model.specs.ClientMessages.{ClientMessage, Init, Subscribe, Complete, Ping, Pong, Bad}
-use Rattle.wire_model.specs.CloseReasons as close
-use Rattle.wire_model.specs.CloseReasons.{CloseReason, close_exists}
+use Rattle.wire_model.specs.CloseReasons.{close_exists}
+use Rattle.wire_model.specs.declared.close.CloseReason.{CloseReason}
+use Rattle.wire_model.specs.declared.close.CloseReason.TheVariants as close
 use Rattle.wire_model.specs.declared.step.Phase.{Phase}
 use Rattle.wire_model.specs.declared.step.Phase.TheVariants.{Fresh, Acked, Closed}
 use Rattle.wire_model.specs.declared.step.Action.{Action}

@@ -4,7 +4,8 @@ use Rattle.std.specs.Prelude.{if◌then◌else◌}
 use Rattle.serde_json.specs.Data.{Members}
 use Rattle.serde_json.specs.Find.{as_str}
 use Rattle.wire_model.specs.ClientMessages as client
-use Rattle.wire_model.specs.ClientMessages.{ClientMessage, required, init_form, subscribe_form, complete_form, bare_form, form_of, form_by_type}
+use Rattle.data_model.specs.JsonParts.{required}
+use Rattle.wire_model.specs.ClientMessages.{ClientMessage, init_form, subscribe_form, complete_form, bare_form, form_of, form_by_type}
 use Rattle.ws_message.specs.declared.client.Kind.TheVariants as kind
 use Rattle.ws_message.specs.Forms.{form_of_kind, kind_named, kind_found}
 

@@ -1,4 +1,3 @@
 pub mod Appends
 pub mod ByType
-pub mod Cut
 pub mod Others

@@ -4,7 +4,14 @@ use Rattle.std.specs.Str.{bytes_eq}
 use Rattle.serde_json.specs.Data.{Members}
 use Rattle.serde_json.specs.Find.{as_str, get_member}
 use Rattle.wire_model.specs.ClientMessages as client
-use Rattle.wire_model.specs.ClientMessages.{ClientMessage, required, init_form, subscribe_form, complete_form, bare_form}
+use Rattle.data_model.specs.JsonParts.{required}
+use Rattle.wire_model.specs.ClientMessages.{
+  ClientMessage,
+  init_form,
+  subscribe_form,
+  complete_form,
+  bare_form,
+}
 use Rattle.ws_message.specs.declared.client.Kind.{Kind}
 use Rattle.ws_message.specs.declared.client.Kind.TheVariants as kind
 

@@ -1,3 +1,2 @@
 pub mod Forms
 pub mod Meant
-pub mod Reasons

@@ -2,11 +2,23 @@ ghost use Rattle.std.specs.Prelude.{◌≡◌, IfOk, Some, codes, option_map, op
 ghost use Rattle.serde_json.specs.Find.{as_str};
 ghost use Rattle.serde_json.specs.View.{view, members_view};
 ghost use Rattle.wire_model.specs.ClientMessages as client;
-ghost use Rattle.wire_model.specs.ClientMessages.{required, init_form, subscribe_form, complete_form, bare_form, form_by_type, message, message_of, request_form, request_of};
+ghost use Rattle.data_model.specs.JsonParts.{required};
+ghost use Rattle.wire_model.specs.ClientMessages.{
+  init_form,
+  subscribe_form,
+  complete_form,
+  bare_form,
+  form_by_type,
+  message,
+  message_of,
+  request_form,
+  request_of,
+};
 ghost use Rattle.ws_message.specs.Forms.{kind_named, kind_found, form_of_kind};
 ghost use Rattle.ws_message.specs.Meant.{meant, request_meant};
 
-use crate::members::{member, take, take_optional_object, take_optional_text, take_text};
+use crate::members::{take, take_optional_object, take_optional_text, take_text};
+use data_model::member;
 use json_out::Request;
 use scalar_val::{NoMemory, Str};
 use serde_json::{Map, Value};

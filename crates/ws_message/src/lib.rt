@@ -3,12 +3,11 @@
 #![tactic(auto)]
 
 mod client;
-mod close;
 mod members;
 mod server;
 #[cfg(test)]
 mod tests;
 
 pub use client::{ClientMsg, read_client};
-pub use close::{CloseReason, ReasonText, close_exists};
-pub use server::{ServerMsg, write_server};
+pub use server::write_server;
+pub use wire_model::{CloseReason, ReasonText, ServerMsg, close_exists};

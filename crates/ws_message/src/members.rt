@@ -1,18 +1,12 @@
 ghost use Rattle.std.specs.Prelude.{◌≡◌, Some, option_map};
 ghost use Rattle.serde_json.specs.Find.{as_str, get_member};
 ghost use Rattle.serde_json.specs.View.{view, members_view};
-ghost use Rattle.wire_model.specs.ClientMessages.{absent_or, an_object, optional, required};
+ghost use Rattle.data_model.specs.JsonParts.{required};
+ghost use Rattle.wire_model.specs.ClientMessages.{absent_or, an_object, optional};
 ghost use Rattle.ws_message.specs.Forms.{KeepsOthers};
 
 use scalar_val::Str;
 use serde_json::{Map, Value};
-
-/// The value of a key of an object.
-pub(crate) fn member<'a>(map: &'a Map<String, Value>, name: &str) -> Option<&'a Value>
-    ensures { option_map (λ v. view v.now) result ≡ get_member name.now (members_view map.now.entries) }
-{
-    map.get(name)
-}
 
 /// Takes the value of a key out of an object.
 pub(crate) fn take(map: &mut Map<String, Value>, name: &str) -> Option<Value>

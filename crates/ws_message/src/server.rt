@@ -1,32 +1,12 @@
 ghost use Rattle.std.specs.Prelude.{◌≡◌, ◌++◌, IfOk, OnOk, codes};
 ghost use Rattle.json.specs.Print.{quoted};
 ghost use Rattle.wire_model.specs.ServerMessages.{written, next_text, complete_text, error_text};
-ghost use Rattle.ws_message.specs.Meant.{server_meant};
 
 use json_out::write_text;
 use outbox::OutText;
 use scalar_val::NoMemory;
 use std::alloc::Global;
-
-/// What the server says. A payload is a JSON text.
-#[derive(Clone, Copy, Debug, Drop)]
-pub enum ServerMsg<'a> {
-    /// `connection_ack`
-    Ack,
-    Pong,
-    Next {
-        id: &'a str,
-        payload: &'a [u8],
-    },
-    Error {
-        id: &'a str,
-        message: &'a str,
-        code: &'a str,
-    },
-    Complete {
-        id: &'a str,
-    },
-}
+use wire_model::ServerMsg;
 
 fn append(out: &mut Vec<u8>, text: &str) -> Result<(), NoMemory>
     ensures { OnOk result (out.new.items ≡ out.old.items ++ text.now) }
@@ -69,7 +49,7 @@ fn write_complete(id: &str, out: &mut Vec<u8>) -> Result<(), NoMemory>
 }
 
 fn append_message(msg: &ServerMsg<'_>, out: &mut Vec<u8>) -> Result<(), NoMemory>
-    ensures { OnOk result (out.new.items ≡ out.old.items ++ written (server_meant msg.now)) }
+    ensures { OnOk result (out.new.items ≡ out.old.items ++ written msg.now) }
 {
     match msg {
         ServerMsg::Ack => append(out, "{\"type\":\"connection_ack\"}"),
@@ -99,7 +79,7 @@ fn likely_len(msg: &ServerMsg<'_>) -> usize {
 
 /// The one text of a message. The bytes of its payload are copied once.
 pub fn write_server(alloc: Global, msg: &ServerMsg<'_>) -> Result<OutText, NoMemory>
-    ensures { IfOk result (λ text. text ≡ written (server_meant msg.now)) }
+    ensures { IfOk result (λ text. text ≡ written msg.now) }
 {
     let mut out = Vec::with_capacity(alloc, likely_len(msg))?;
     append_message(msg, &mut out)?;

@@ -13,12 +13,15 @@ use std::test::Fail;
 
 /// The items of a short conversation.
 fn items(alloc: Global) -> Result<Vec<LinkItem>, Fail> {
-    let mut items = Vec::new(alloc);
-    items.push(LinkItem::Text(Str::of(alloc, "hi")?))?;
-    items.push(LinkItem::Binary)?;
-    items.push(LinkItem::Idle)?;
-    items.push(LinkItem::PeerClosed)?;
-    Ok(items)
+    Ok(Vec::from_array(
+        alloc,
+        [
+            LinkItem::Text(Str::of(alloc, "hi")?),
+            LinkItem::Binary,
+            LinkItem::Idle,
+            LinkItem::PeerClosed,
+        ],
+    )?)
 }
 
 fn word_of(answer: LinkIn) -> &'static str {
@@ -49,27 +52,40 @@ fn transcript(alloc: Global, sent: &[LinkOut]) -> Result<Vec<u8>, Fail> {
 }
 
 #[test]
-fn a_link_in_memory_gives_its_items_and_keeps_what_was_sent(rt: HostRuntime) -> Result<(), Fail> {
+fn a_link_in_memory_gives_its_items(rt: HostRuntime) -> Result<(), Fail> {
     let alloc = rt.alloc();
     let Opened::Link(mut link) = MemLink::new(alloc, items(alloc)?, Vec::new(alloc)).open_link()
     else {
         return Err(Fail::from("another answer"));
     };
+    for want in ["text", "binary", "idle", "closed", "closed"] {
+        assert_eq!(rt; word_of(link.recv()), want);
+    }
+    assert_eq!(rt; link.left(), 0);
+    Ok(())
+}
+
+#[test]
+fn a_link_in_memory_gives_the_text_that_comes(rt: HostRuntime) -> Result<(), Fail> {
+    let alloc = rt.alloc();
+    let mut link = MemLink::new(alloc, items(alloc)?, Vec::new(alloc));
     let LinkIn::Text(text) = link.recv() else {
         return Err(Fail::from("another answer"));
     };
     assert_eq!(rt; text.as_str(), "hi");
+    Ok(())
+}
+
+#[test]
+fn a_link_in_memory_keeps_what_was_sent(rt: HostRuntime) -> Result<(), Fail> {
+    let alloc = rt.alloc();
+    let mut link = MemLink::new(alloc, Vec::new(alloc), Vec::new(alloc));
     assert_eq!(rt; link.send(b"one"), Sent::Done);
-    for want in ["binary", "idle", "closed", "closed"] {
-        assert_eq!(rt; word_of(link.recv()), want);
-    }
     assert_eq!(rt; link.close(4400, b"Invalid message"), Sent::Done);
     assert_eq!(rt;
         transcript(alloc, link.sent())?.as_slice(),
         b"one\n4400 Invalid message\n".as_slice()
     );
-    assert_eq!(rt; link.left(), 0);
-    assert_eq!(rt; link.faults(), 0);
     Ok(())
 }
 
@@ -78,16 +94,12 @@ fn a_link_in_memory_fails_at_the_given_calls(rt: HostRuntime) -> Result<(), Fail
     let alloc = rt.alloc();
     let mut link = MemLink::new(alloc, items(alloc)?, [1, 3, 5].to_vec(alloc)?);
     assert_eq!(rt; word_of(link.recv()), "failed");
-    assert_eq!(rt; link.left(), 4);
     assert_eq!(rt; link.send(b"one"), Sent::Done);
     assert_eq!(rt; link.send(b"two"), Sent::Failed);
     assert_eq!(rt; link.close(1, b""), Sent::Done);
     assert_eq!(rt; link.close(2, b""), Sent::Failed);
     assert_eq!(rt; word_of(link.recv()), "text");
-    assert_eq!(rt;
-        transcript(alloc, link.sent())?.as_slice(),
-        b"one\n1 \n".as_slice()
-    );
+    assert_eq!(rt; link.sent().len(), 2);
     assert_eq!(rt; link.faults(), 3);
     Ok(())
 }
@@ -132,19 +144,30 @@ impl Work for Number {
 }
 
 #[test]
-fn a_spawner_in_memory_keeps_what_it_started(rt: HostRuntime) -> Result<(), Fail> {
+fn a_spawner_in_memory_fails_at_the_given_calls_and_past_its_room(
+    rt: HostRuntime,
+) -> Result<(), Fail> {
     let alloc = rt.alloc();
     let mut spawner = MemSpawner::new(alloc, 2, [2].to_vec(alloc)?)?;
-    for (number, want) in [(1u8, true), (2, false), (3, true), (4, false)] {
-        assert_eq!(rt; spawner.start(Number(number)), want, "at {number}");
+    for want in [true, false, true, false] {
+        assert_eq!(rt; spawner.start(Number(1)), want);
     }
     assert_eq!(rt; spawner.faults(), 2);
-    assert_eq!(rt; spawner.started().len(), 2);
+    Ok(())
+}
+
+#[test]
+fn a_spawner_in_memory_keeps_what_it_started(rt: HostRuntime) -> Result<(), Fail> {
+    let alloc = rt.alloc();
+    let mut spawner = MemSpawner::new(alloc, 2, Vec::new(alloc))?;
+    for number in [3, 1] {
+        assert!(rt; spawner.start(Number(number)));
+    }
     let mut answers = Vec::new(alloc);
     for work in spawner.into_started() {
         answers.push(work.run(&rt))?;
     }
-    assert_eq!(rt; answers.as_slice(), [1, 3].as_slice());
+    assert_eq!(rt; answers.as_slice(), [3, 1].as_slice());
     Ok(())
 }
 

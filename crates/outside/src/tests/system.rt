@@ -1,8 +1,8 @@
 ghost use Rattle.std.specs.Prelude.{⊤};
 
 use crate::{
-    Accepted, Clock, Got, Listener, Parts, Put, Sink, Source, Spawner, Splits, SysClock, TcpPort,
-    ThreadSpawner, Work,
+    Accepted, Clock, Got, Listener, Parts, Put, Sink, Source, Spawner, Splits, StdSink, StdSource,
+    SysClock, TcpPort, ThreadSpawner, Work,
 };
 use std::alloc::Global;
 use std::net::{IpAddr, Ipv4Addr, TcpStream};
@@ -13,37 +13,63 @@ use std::test::Fail;
 /// How often a work or a test looks for a flag, at a millisecond each.
 const TURNS: u32 = 20_000;
 
-#[test]
-fn a_tcp_port_gives_a_stream_that_splits(rt: HostRuntime) -> Result<(), Fail> {
+/// A port that listens on a number of the system's choice, and that number.
+fn listening(rt: HostRuntime) -> Result<(TcpPort<HostRuntime>, u16), Fail> {
     let mut port = TcpPort::new(rt, IpAddr::V4(Ipv4Addr::LOCALHOST));
-    assert!(rt; matches!(port.accept(), Accepted::Failed));
-    assert!(rt; port.listen(0));
-    let Some(number) = port.local_port() else {
-        return Err(Fail::from("another answer"));
-    };
+    let listens = port.listen(0);
+    match port.local_port() {
+        Some(number) if listens => Ok((port, number)),
+        _ => Err(Fail::from("no port")),
+    }
+}
+
+/// The client's end and the server's of a connection.
+fn connected(rt: HostRuntime) -> Result<(TcpStream, TcpStream), Fail> {
+    let (mut port, number) = listening(rt)?;
+    let client = TcpStream::connect(&rt, (IpAddr::V4(Ipv4Addr::LOCALHOST), number))?;
+    match port.accept() {
+        Accepted::Conn(server) => Ok((client, server)),
+        Accepted::End | Accepted::Failed => Err(Fail::from("no connection")),
+    }
+}
+
+fn halves(stream: TcpStream) -> Result<(StdSource<TcpStream>, StdSink<TcpStream>), Fail> {
+    match stream.split() {
+        Parts::Both(source, sink) => Ok((source, sink)),
+        Parts::Failed | Parts::NoMemory => Err(Fail::from("no halves")),
+    }
+}
+
+#[test]
+fn a_port_that_is_taken_fails(rt: HostRuntime) -> Result<(), Fail> {
+    let (_port, number) = listening(rt)?;
     let mut taken = TcpPort::new(rt, IpAddr::V4(Ipv4Addr::LOCALHOST));
     assert!(rt; !taken.listen(number));
-    assert_eq!(rt; taken.faults(), 1);
+    assert!(rt; matches!(taken.accept(), Accepted::Failed));
+    assert_eq!(rt; taken.faults(), 2);
+    Ok(())
+}
 
-    let client = TcpStream::connect(&rt, (IpAddr::V4(Ipv4Addr::LOCALHOST), number))?;
-    let Accepted::Conn(server) = port.accept() else {
-        return Err(Fail::from("another answer"));
-    };
-    assert_eq!(rt; port.faults(), 1);
-    let Parts::Both(mut from_client, mut to_client) = server.split() else {
-        return Err(Fail::from("another answer"));
-    };
+#[test]
+fn a_tcp_stream_splits_into_both_directions(rt: HostRuntime) -> Result<(), Fail> {
+    let (client, server) = connected(rt)?;
+    let (mut from_client, mut to_client) = halves(server)?;
+    let (mut from_server, mut to_server) = halves(client)?;
     let mut buf = [0u8; 8];
-    {
-        let Parts::Both(mut from_server, mut to_server) = client.split() else {
-            return Err(Fail::from("another answer"));
-        };
-        assert_eq!(rt; to_server.write(b"[]\n"), Put::Bytes(3));
-        assert_eq!(rt; from_client.read(&mut buf), Got::Bytes(3));
-        assert_eq!(rt; to_client.write(b"ok\n"), Put::Bytes(3));
-        assert_eq!(rt; from_server.read(&mut buf), Got::Bytes(3));
-        assert_eq!(rt; &buf[..3], b"ok\n".as_slice());
-    }
+    assert_eq!(rt; to_server.write(b"[]\n"), Put::Bytes(3));
+    assert_eq!(rt; from_client.read(&mut buf), Got::Bytes(3));
+    assert_eq!(rt; to_client.write(b"ok\n"), Put::Bytes(3));
+    assert_eq!(rt; from_server.read(&mut buf), Got::Bytes(3));
+    assert_eq!(rt; &buf[..3], b"ok\n".as_slice());
+    Ok(())
+}
+
+#[test]
+fn a_tcp_stream_ends_where_its_peer_is_gone(rt: HostRuntime) -> Result<(), Fail> {
+    let (client, server) = connected(rt)?;
+    let (mut from_client, _to_client) = halves(server)?;
+    drop(client);
+    let mut buf = [0u8; 8];
     assert_eq!(rt; from_client.read(&mut buf), Got::End);
     Ok(())
 }

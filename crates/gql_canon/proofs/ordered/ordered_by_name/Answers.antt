@@ -4,7 +4,7 @@ use Rattle.std.proofs.lemmas.List.Sorted.{ranks_by, answers_always}
 use Rattle.request_model.specs.Selection.{by_name}
 use Rattle.request_model.specs.declared.document.GValue.TheViews.{out-GPair}
 use Rattle.gql_canon.specs.Names.{compare_names}
-use Rattle.gql_canon.proofs.StableRules.{sorted_by_placing}
+use Rattle.scalar_val.proofs.StableRules.{sorted_by_placing}
 use Rattle.gql_canon.proofs.ordered.ordered_by_name.Goals as goal
 
 pub returns : goal.returns

@@ -1,5 +1,5 @@
 use Rattle.std.proofs.Common.{◌≡◌, ◌++◌, map, take, drop}
-use Rattle.request_model.specs.Ordered.{placed}
+use Rattle.scalar_val.specs.Ordered.{placed}
 use Rattle.gql_canon.specs.Names.{compare_names}
 use Rattle.gql_canon.proofs.tests.place.Given as goal
 

@@ -1,9 +1,11 @@
 use Rattle.std.proofs.Common.{◌≡◌, ◌++◌, ◌∷◌, map, drop, if◌then◌else◌, string_bytes}
 use Rattle.std.specs.List.{flat_map}
-use Rattle.request_model.specs.Canonical.{parted, argument_text}
+use Rattle.scalar_val.specs.Joined.{parted}
+use Rattle.request_model.specs.Canonical.{argument_text}
 use Rattle.gql_canon.proofs.values_text.put_arguments.Given as goal
 
 abbrev pub invariant-loop-pair : goal.invariant-loop-pair
 invariant-loop-pair l =
     let rest = map argument_text (map (λ p. p.now) (drop l.pair-index l.pairs)) in
-    string_bytes l.out ++ (if l.first then parted 44 rest else flat_map (λ u. 44 ∷ u) rest) ≡ string_bytes l.fn.out ++ parted 44 (map argument_text (map (λ p. p.now) l.pairs))
+    string_bytes l.out ++ (if l.first then parted 44 rest else flat_map (λ u. 44 ∷ u) rest)
+    ≡ string_bytes l.fn.out ++ parted 44 (map argument_text (map (λ p. p.now) l.pairs))

@@ -1,9 +1,11 @@
 use Rattle.std.proofs.Common.{◌≡◌, ◌++◌, ◌∷◌, map, drop, if◌then◌else◌, string_bytes}
 use Rattle.std.specs.List.{flat_map}
-use Rattle.request_model.specs.Canonical.{parted, cursor_object}
+use Rattle.scalar_val.specs.Joined.{parted}
+use Rattle.request_model.specs.Canonical.{cursor_object}
 use Rattle.gql_canon.proofs.values_text.put_cursor_objects.Given as goal
 
 abbrev pub invariant-loop-value : goal.invariant-loop-value
 invariant-loop-value l =
     let rest = map cursor_object (drop l.value-index l.values) in
-    string_bytes l.out ++ (if l.first then parted 44 rest else flat_map (λ u. 44 ∷ u) rest) ≡ string_bytes l.fn.out ++ parted 44 (map cursor_object l.values)
+    string_bytes l.out ++ (if l.first then parted 44 rest else flat_map (λ u. 44 ∷ u) rest)
+    ≡ string_bytes l.fn.out ++ parted 44 (map cursor_object l.values)

@@ -6,6 +6,7 @@ use Rattle.gql_scope.proofs.refusals.has_stray.Goals as goal
 
 pub returns-then-on_variables : goal.returns-then-on_variables
 returns-then-on_variables c = (
-  λ _. inl (sym (ap (λ (o : spec.Operation). list_any (λ (v : VarDef). spec.has_some v.directives) o.vars) c.operation.view_is) ∙ sym c.vars_have_directives-on_variables.ensures ∙ c.if-on_variables.true),
+  λ _. inl (sym (ap (λ (o : spec.Operation). list_any (λ (v : VarDef). spec.has_some v.directives) o.vars)
+      c.operation.view_is) ∙ sym c.vars_have_directives-on_variables.ensures ∙ c.if-on_variables.true),
   λ _. c.if-on_variables.true,
 )

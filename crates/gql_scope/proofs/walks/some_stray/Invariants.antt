@@ -4,4 +4,5 @@ use Rattle.request_model.specs.Selection.{is_served}
 use Rattle.gql_scope.proofs.walks.some_stray.Given as goal
 
 abbrev pub invariant-loop-directive : goal.invariant-loop-directive
-invariant-loop-directive l = list_any (λ x. not (is_served x)) (map (λ n. n.now) (drop l.directive-index l.directives)) ≡ list_any (λ x. not (is_served x)) (map (λ n. n.now) l.directives)
+invariant-loop-directive l = list_any (λ x. not (is_served x)) (map (λ n. n.now) (drop l.directive-index l.directives))
+    ≡ list_any (λ x. not (is_served x)) (map (λ n. n.now) l.directives)

@@ -1,6 +1,6 @@
 use Rattle.std.proofs.Common.{◌≡◌, map, drop, not}
 use Rattle.std.specs.List.{list_any}
-use Rattle.role_model.specs.MetadataFaults.{is_own_name}
+use Rattle.role_model.specs.MetadataNames.{is_own_name}
 use Rattle.metadata_read.proofs.faults.has_a_bad_link_name.Given as goal
 
 abbrev pub invariant-loop-link : goal.invariant-loop-link

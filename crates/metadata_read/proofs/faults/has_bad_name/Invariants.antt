@@ -1,6 +1,6 @@
 use Rattle.std.proofs.Common.{◌≡◌, ◌||◌, drop, not}
 use Rattle.std.specs.List.{list_any}
-use Rattle.role_model.specs.MetadataFaults.{is_own_name, field_names}
+use Rattle.role_model.specs.MetadataNames.{is_own_name, field_names}
 use Rattle.metadata_read.proofs.faults.has_bad_name.Given as goal
 
 abbrev pub invariant-loop-table : goal.invariant-loop-table

@@ -1,6 +1,6 @@
 use Rattle.std.proofs.Common.{◌≡◌, drop, is_none}
 use Rattle.std.specs.List.{list_any}
-use Rattle.role_model.specs.MetadataFaults.{table_number, links_of}
+use Rattle.role_model.specs.MetadataNames.{table_number, links_of}
 use Rattle.metadata_read.proofs.faults.has_no_table.Given as goal
 
 abbrev pub invariant-loop-table : goal.invariant-loop-table

@@ -1,5 +1,5 @@
 use Rattle.std.proofs.Common.{◌≡◌, drop}
-use Rattle.role_model.specs.MetadataFaults.{has_column}
+use Rattle.role_model.specs.MetadataNames.{has_column}
 use Rattle.metadata_read.proofs.faults.is_a_column.Given as goal
 
 abbrev pub invariant-loop-column : goal.invariant-loop-column

@@ -1,5 +1,5 @@
 use Rattle.std.proofs.Common.{◌≡◌, drop}
-use Rattle.role_model.specs.MetadataFaults.{kind_in}
+use Rattle.role_model.specs.MetadataNames.{kind_in}
 use Rattle.metadata_read.proofs.faults.kind_by.Given as goal
 
 abbrev pub invariant-loop-column : goal.invariant-loop-column

@@ -1,6 +1,6 @@
 use Rattle.std.proofs.Common.{◌≡◌, drop, is_none}
 use Rattle.std.specs.List.{list_any}
-use Rattle.role_model.specs.MetadataFaults.{table_number}
+use Rattle.role_model.specs.MetadataNames.{table_number}
 use Rattle.metadata_read.proofs.faults.names_no_table.Given as goal
 
 abbrev pub invariant-loop-link : goal.invariant-loop-link

@@ -1,6 +1,6 @@
 use Rattle.std.proofs.Common.{◌≡◌, ◌++◌, drop}
 use Rattle.std.specs.List.{flat_map}
-use Rattle.role_model.specs.MetadataFaults.{root_names}
+use Rattle.role_model.specs.MetadataNames.{root_names}
 use Rattle.metadata_read.proofs.faults.names_of_root_fields.Given as goal
 
 abbrev pub invariant-loop-table : goal.invariant-loop-table

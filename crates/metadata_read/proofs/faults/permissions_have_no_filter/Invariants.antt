@@ -1,7 +1,7 @@
 use Rattle.std.proofs.Common.{◌≡◌, [], drop, is_none}
 use Rattle.std.specs.List.{list_any}
 use Rattle.role_model.specs.JsonFilters.{filter_of}
-use Rattle.role_model.specs.MetadataFaults.{json_of}
+use Rattle.role_model.specs.MetadataNames.{json_of}
 use Rattle.metadata_read.proofs.faults.permissions_have_no_filter.Given as goal
 
 abbrev pub invariant-loop-permission : goal.invariant-loop-permission

@@ -1,5 +1,5 @@
 use Rattle.std.proofs.Common.{◌≡◌, map, take}
-use Rattle.role_model.specs.MetadataFaults.{link_defs}
+use Rattle.role_model.specs.MetadataMeaning.{link_defs}
 use Rattle.metadata_read.proofs.meaning.links_of_all.Given as goal
 
 abbrev pub invariant-loop-table : goal.invariant-loop-table

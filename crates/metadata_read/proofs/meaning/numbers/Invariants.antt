@@ -1,5 +1,5 @@
 use Rattle.std.proofs.Common.{◌≡◌, take}
-use Rattle.role_model.specs.MetadataFaults.{numbers_of}
+use Rattle.role_model.specs.MetadataMeaning.{numbers_of}
 use Rattle.metadata_read.proofs.meaning.numbers.Given as goal
 
 abbrev pub invariant-loop-name : goal.invariant-loop-name

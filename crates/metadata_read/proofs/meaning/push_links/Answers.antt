@@ -1,6 +1,6 @@
 use Rattle.std.proofs.Common.{◌≡◌, ◌∷◌, ◌+◌, drop, ap, sym, ◌∙◌}
 use Rattle.std.proofs.lemmas.List.{drop_more}
-use Rattle.role_model.specs.MetadataFaults.{link_def}
+use Rattle.role_model.specs.MetadataMeaning.{link_def}
 use Rattle.metadata_read.proofs.Steps.{one_more_made}
 use Rattle.metadata_read.proofs.meaning.push_links.Goals as goal
 

@@ -1,5 +1,5 @@
 use Rattle.std.proofs.Common.{◌≡◌, ◌++◌, map, drop}
-use Rattle.role_model.specs.MetadataFaults.{link_def}
+use Rattle.role_model.specs.MetadataMeaning.{link_def}
 use Rattle.metadata_read.proofs.meaning.push_links.Given as goal
 
 -- what is there, before what is left

@@ -1,5 +1,5 @@
 use Rattle.std.proofs.Common.{◌≡◌, ap, ◌∙◌}
-use Rattle.role_model.specs.MetadataFaults.{role_def}
+use Rattle.role_model.specs.MetadataMeaning.{role_def}
 use Rattle.metadata_read.specs.Held.{role_held, kept_by}
 use Rattle.metadata_read.proofs.Kept.{role_is}
 use Rattle.metadata_read.proofs.Steps.{one_more_mapped}

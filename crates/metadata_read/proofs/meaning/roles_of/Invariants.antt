@@ -1,5 +1,5 @@
 use Rattle.std.proofs.Common.{◌≡◌, map, take}
-use Rattle.role_model.specs.MetadataFaults.{role_def}
+use Rattle.role_model.specs.MetadataMeaning.{role_def}
 use Rattle.metadata_read.proofs.meaning.roles_of.Given as goal
 
 abbrev pub invariant-loop-name : goal.invariant-loop-name

@@ -1,5 +1,5 @@
 use Rattle.std.proofs.Common.{◌≡◌, map, take}
-use Rattle.role_model.specs.MetadataFaults.{table_def}
+use Rattle.role_model.specs.MetadataMeaning.{table_def}
 use Rattle.metadata_read.proofs.meaning.tables_of.Given as goal
 
 abbrev pub invariant-loop-table : goal.invariant-loop-table

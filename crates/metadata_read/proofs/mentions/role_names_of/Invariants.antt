@@ -1,7 +1,7 @@
 use Rattle.std.proofs.Common.{◌≡◌, drop, map}
 use Rattle.std.specs.List.{fold, flat_map}
 use Rattle.role_model.specs.JsonFilters.{with_text}
-use Rattle.role_model.specs.MetadataFaults.{role_names}
+use Rattle.role_model.specs.MetadataMeaning.{role_names}
 use Rattle.metadata_read.proofs.mentions.role_names_of.Given as goal
 
 abbrev pub invariant-loop-table : goal.invariant-loop-table

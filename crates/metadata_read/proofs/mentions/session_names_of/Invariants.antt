@@ -1,7 +1,7 @@
 use Rattle.std.proofs.Common.{◌≡◌, drop}
 use Rattle.std.specs.List.{fold, flat_map}
 use Rattle.role_model.specs.JsonFilters.{with_text, mentions}
-use Rattle.role_model.specs.MetadataFaults.{json_of}
+use Rattle.role_model.specs.MetadataNames.{json_of}
 use Rattle.metadata_read.specs.Held.{names_held}
 use Rattle.metadata_read.proofs.mentions.session_names_of.Given as goal
 

@@ -1,6 +1,6 @@
 use Rattle.std.proofs.Common.{◌≡◌, ◌++◌, drop}
 use Rattle.std.specs.List.{filter_map, enumerate_from}
-use Rattle.role_model.specs.MetadataFaults.{grant_for}
+use Rattle.role_model.specs.MetadataMeaning.{grant_for}
 use Rattle.metadata_read.proofs.plain.grants_of.Given as goal
 
 abbrev pub invariant-loop-at : goal.invariant-loop-at

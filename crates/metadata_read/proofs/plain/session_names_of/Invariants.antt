@@ -1,7 +1,7 @@
 use Rattle.std.proofs.Common.{◌≡◌, drop}
 use Rattle.std.specs.List.{fold, flat_map}
 use Rattle.role_model.specs.JsonFilters.{with_text}
-use Rattle.role_model.specs.MetadataFaults.{mentions_by, permission_for, session_names}
+use Rattle.role_model.specs.MetadataMeaning.{mentions_by, permission_for, session_names}
 use Rattle.metadata_read.proofs.plain.session_names_of.Given as goal
 
 abbrev pub invariant-loop-table : goal.invariant-loop-table

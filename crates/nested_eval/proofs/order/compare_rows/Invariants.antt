@@ -1,5 +1,5 @@
 use Rattle.std.proofs.Common.{◌≡◌, drop}
-use Rattle.query_model.specs.Taken.{rows_cmp}
+use Rattle.plan_model.specs.Taken.{rows_cmp}
 use Rattle.nested_eval.proofs.order.compare_rows.Given as goal
 
 abbrev pub invariant-loop-order : goal.invariant-loop-order

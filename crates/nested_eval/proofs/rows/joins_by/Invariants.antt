@@ -1,5 +1,5 @@
 use Rattle.std.proofs.Common.{◌≡◌, drop}
-use Rattle.query_model.specs.Taken.{joins}
+use Rattle.plan_model.specs.Taken.{joins}
 use Rattle.nested_eval.proofs.rows.joins_by.Given as goal
 
 abbrev pub invariant-loop-column : goal.invariant-loop-column

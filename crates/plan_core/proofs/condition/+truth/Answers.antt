@@ -1,4 +1,4 @@
-use Rattle.role_model.proofs.Truths.{truth_of-And, truth_of-Or, truth_of-Cmp, truth_of-Among, truth_of-IsNull}
+use Rattle.plan_model.proofs.Truths.{truth_of-And, truth_of-Or, truth_of-Cmp, truth_of-Among, truth_of-IsNull}
 use Rattle.plan_core.proofs.condition.+truth.Goals as goal
 
 pub truth-returns-in-And : goal.truth-returns-in-And

@@ -1,5 +1,5 @@
 use Rattle.std.proofs.Common.{◌≡◌, map, take}
-use Rattle.data_model.specs.Rows.{cell}
+use Rattle.scalar_val.specs.Values.{cell}
 use Rattle.row_store.proofs.copying.key_of.Given as goal
 
 abbrev pub invariant-loop-column : goal.invariant-loop-column

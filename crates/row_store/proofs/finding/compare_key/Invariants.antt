@@ -1,5 +1,6 @@
 use Rattle.std.proofs.Common.{◌≡◌, map, drop}
-use Rattle.data_model.specs.Rows.{cell, key_cmp}
+use Rattle.scalar_val.specs.Values.{cell}
+use Rattle.data_model.specs.Rows.{key_cmp}
 use Rattle.row_store.proofs.finding.compare_key.Given as goal
 
 abbrev pub invariant-loop-column : goal.invariant-loop-column

@@ -1,6 +1,5 @@
 use Rattle.std.proofs.Common.{map}
 use Rattle.model.specs.State.{Connect, Did}
-use Rattle.model.specs.Shown.{queued_of}
 use Rattle.script_text.specs.Told.{Tells}
 use Rattle.subs_run.proofs.Events.{line_ran, when_ok, opened, open_known, open_never, open_unbuilt}
 use Rattle.subs_run.proofs.event.run_open.Goals as goal
@@ -8,7 +7,7 @@ use Rattle.subs_run.proofs.event.run_open.Goals as goal
 pub returns-in-Ok-Did : goal.returns-in-Ok-Did
 returns-in-Ok-Did c h st =
     let answers = rw c.in-Ok-Did.field-0-is at c.in-Ok-Did.ensures.reply in
-    let queued = map queued_of c.in-Ok-Did.effect.queued in
+    let queued = c.in-Ok-Did.effect.queued in
     line_ran c.went.result c.write_open.result _ c.args.hub.now c.connect.new.self c.args.out.now.items c.write_open.new.out.items c.went.ensures
     (λ ok. opened c.args.hub.now c.connect.new.self h c.args.conn queued c.args.out.now.items c.write_open.new.out.items answers st
     (when_ok c.write_open.result (Tells (Connect c.args.conn) Did queued c.args.out.now.items c.write_open.new.out.items) c.write_open.ensures ok))

@@ -1,7 +1,6 @@
 use Rattle.std.proofs.Common.{◌≡◌, ◌∙◌, Bool, true, inl, inr, refl, sym, subst, map, if◌then◌else◌}
 use Rattle.std.specs.Prelude.{string_bytes}
 use Rattle.model.specs.Script.{outcome, output}
-use Rattle.script_text.specs.Said.{reason_of}
 use Rattle.subs_run.specs.Runs.{WroteFront}
 use Rattle.subs_run.specs.Words.{is_run, usage_line}
 use Rattle.subs_run.proofs.Outcomes.{none_some}
@@ -14,14 +13,14 @@ pub returns-in-SourceFault-clause-answered : goal.returns-in-SourceFault-clause-
 returns-in-SourceFault-clause-answered g c s k runs all told none = absurd ((c.in-SourceFault.ensures.complete s k).0 refl)
 
 pub returns-in-ScriptFault-clause-fault : goal.returns-in-ScriptFault-clause-fault
-returns-in-ScriptFault-clause-fault g c e all told = (c.in-ScriptFault.line, (reason_of c.in-ScriptFault.reason, c.in-ScriptFault.ensures.fault all told))
+returns-in-ScriptFault-clause-fault g c e all told = (c.in-ScriptFault.line, (c.in-ScriptFault.reason, c.in-ScriptFault.ensures.fault all told))
 
 pub returns-in-ScriptFault-clause-whole : goal.returns-in-ScriptFault-clause-whole
 returns-in-ScriptFault-clause-whole g c e all w told told_w = c.in-ScriptFault.ensures.whole tt all w told told_w
 
 pub returns-in-ScriptFault-clause-answered : goal.returns-in-ScriptFault-clause-answered
 returns-in-ScriptFault-clause-answered g c s k runs all told none =
-    absurd (none_some (outcome all).fault (c.in-ScriptFault.line, reason_of c.in-ScriptFault.reason) none (c.in-ScriptFault.ensures.fault all told))
+    absurd (none_some (outcome all).fault (c.in-ScriptFault.line, c.in-ScriptFault.reason) none (c.in-ScriptFault.ensures.fault all told))
 
 pub returns-in-SinkFault-clause-front : goal.returns-in-SinkFault-clause-front
 returns-in-SinkFault-clause-front g c e all w told told_w =

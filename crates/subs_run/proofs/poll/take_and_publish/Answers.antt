@@ -1,7 +1,6 @@
 use Rattle.std.proofs.Common.{sym, subst, ◌++◌, ◌∷◌, [], ℕ, List, map}
 use Rattle.role_model.specs.declared.metadata.Metadata.{Metadata}
 use Rattle.model.specs.State.{Event, Take, Publish, Published, NotOpen}
-use Rattle.model.specs.Shown.{queued_of}
 use Rattle.hub.specs.Jobs.{job_of, JobOf, AnswersOf}
 use Rattle.hub.specs.Stands.{Happened, Does}
 use Rattle.subs_run.proofs.Polls.{took_some, not_open, are_answers}
@@ -15,7 +14,7 @@ returns-in-Ok-Published-clause-took g c h st =
     let h1 : List Event = h ++ Take ∷ [] in
     let job_is : JobOf c.take.new.self.meta job h1 = subst (λ (m : Metadata). JobOf m job h1) (sym taking.0.meta) (taking.1 h st) in
     let answers : AnswersOf c.take.new.self.meta c.of-answers.result h1 = are_answers c.take.new.self.meta c.of-answers.result job.number job.version c.in_ok-outcomes.outcomes h1 c.of-answers.ensures.number c.of-answers.ensures.version c.of-answers.ensures.outcomes (c.in_ok-outcomes.ensures.answers c.take.new.self.meta h1 job_is) in
-    let queued = map queued_of c.in-Ok-Published.queued in
+    let queued = c.in-Ok-Published.queued in
     let by_answers : Happened c.take.new.self c.publish.new.self h1 (Publish c.of-answers.result.number) (Published c.of-answers.result.version) queued = publishing.3 h1 (taking.0.happened h st).stands answers in
     let happened : Happened c.take.new.self c.publish.new.self h1 (Publish job.number) (Published job.version) queued =
     subst (λ (v : ℕ). Happened c.take.new.self c.publish.new.self h1 (Publish job.number) (Published v) queued) c.of-answers.ensures.version

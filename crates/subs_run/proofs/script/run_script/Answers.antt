@@ -4,5 +4,4 @@ use Rattle.subs_run.proofs.script.run_script.Goals as goal
 
 pub returns-clause-answered : goal.returns-clause-answered
 returns-clause-answered g c s k all told none =
-    let never = c.run_from.ensures.complete s k in
-    answered_by c.run_from.result (outcome all).fault (c.run_from.ensures.closed.fault all told) none never.0 never.1
+    answered_by c.run_from.result (outcome all).fault (c.run_from.ensures.closed.fault all told) none (c.run_from.ensures.source_steady s) (c.run_from.ensures.sink_steady k)

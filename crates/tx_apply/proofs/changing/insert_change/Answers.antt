@@ -3,7 +3,7 @@ use Rattle.scalar_val.specs.declared.val.Val.{Val}
 use Rattle.data_model.specs.declared.catalog.TableDef.{TableDef}
 use Rattle.data_model.specs.Rows.{first_reason, insert_tests}
 use Rattle.row_store.specs.Held.{rows_at}
-use Rattle.tx_apply.proofs.Gives.{insert_answers}
+use Rattle.data_model.proofs.Gives.{insert_answers}
 use Rattle.tx_apply.proofs.changing.insert_change.Goals as goal
 
 pub returns-clause-answer : goal.returns-clause-answer

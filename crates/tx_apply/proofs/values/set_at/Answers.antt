@@ -2,7 +2,7 @@ use Rattle.std.proofs.Common.{◌≡◌, ℕ, List, ap, ◌∙◌, length}
 use Rattle.std.specs.List.{position_or_len}
 use Rattle.std.proofs.lemmas.Result.{IfOk-weaker}
 use Rattle.data_model.specs.Transactions.{is_column}
-use Rattle.tx_apply.proofs.Gives.{cell_is, set_by_name, set_by_none}
+use Rattle.data_model.proofs.Gives.{cell_is, set_by_name, set_by_none}
 use Rattle.tx_apply.proofs.values.set_at.Goals as goal
 
 pub returns-in_ok-value_in-in-Some : goal.returns-in_ok-value_in-in-Some

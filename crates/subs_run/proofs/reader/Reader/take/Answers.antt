@@ -1,8 +1,7 @@
 use Rattle.std.proofs.Common.{◌+◌, arith, ℕ, List, ◌++◌, length-append}
-use Rattle.script_text.specs.Said.{reason_of}
 use Rattle.subs_run.specs.Runs.{ran}
 use Rattle.subs_run.proofs.Outcomes.{outcome-fault, ends_on, ends_then, front_of_output}
-use Rattle.subs_run.proofs.Turns.{neither}
+use Rattle.subs_run.proofs.Pieces.{neither}
 use Rattle.subs_run.proofs.reader.Reader.take.Goals as goal
 
 pub fault-requires : goal.fault-requires
@@ -14,10 +13,10 @@ pub returns-in-Faulty-clause-takes : goal.returns-in-Faulty-clause-takes
 returns-in-Faulty-clause-takes g c seen a within =
     let read : List ℕ = seen ++ c.args.piece.now in
     let fed = c.in-Faulty.ensures.fed seen a in (
-      neither c.fault.result (g.K.Sink.written c.feed.new.sink) (g.K.Sink.written c.fault.new.sink) (c.feed.new.self.taken + 1) (reason_of c.in-Faulty.reason) c.fault.ensures.closes,
+      neither c.fault.result (g.K.Sink.written c.feed.new.sink) (g.K.Sink.written c.fault.new.sink) (c.feed.new.self.lines_read + 1) c.in-Faulty.reason c.fault.ensures.closes,
       λ rest. ends_then c.fault.result (g.K.Sink.written c.args.sink.now) (g.K.Sink.written c.feed.new.sink) (g.K.Sink.written c.fault.new.sink) (ran seen).text (ran read).text (read ++ rest) (c.in-Faulty.ensures.all seen a)
           (ends_on c.fault.result (g.K.Sink.written c.feed.new.sink) (g.K.Sink.written c.fault.new.sink) (ran read).text (read ++ rest) _ c.fault.ensures.closes
-          (outcome-fault read rest (c.feed.new.self.taken + 1) (reason_of c.in-Faulty.reason) (omega (arith, within, length-append seen c.args.piece.now)) fed.0)),
+          (outcome-fault read rest (c.feed.new.self.lines_read + 1) c.in-Faulty.reason (omega (arith, within, length-append seen c.args.piece.now)) fed.0)),
     )
 
 pub returns-in-SinkFailed-clause-takes : goal.returns-in-SinkFailed-clause-takes

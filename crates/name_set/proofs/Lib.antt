@@ -1,0 +1,3 @@
+pub mod NameRules
+pub mod Positions
+mod RepeatRules

@@ -1,0 +1,10 @@
+pub mod Values
+pub mod Truth
+pub mod FilterFits
+pub mod Taken
+pub mod Outcomes
+pub mod Planned
+pub mod PlanFits
+pub mod BindingFits
+pub mod Readiness
+pub mod Reads

@@ -1,0 +1,7 @@
+mod BareResults
+mod SharedResults
+mod SameTruths
+mod SamePermissions
+mod PlannedWanted
+mod PlannedSelects
+mod PlannedResults

@@ -1,0 +1,8 @@
+mod SortedRows
+mod StreamOrder
+mod StreamPieces
+mod StreamTables
+mod SettledTables
+mod StreamGrowth
+mod StreamsOnce
+mod StreamResults

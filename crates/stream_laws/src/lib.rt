@@ -1,0 +1,8 @@
+//! What holds of streams, proved over the definitions of `query_model`. It has no logic and no data.
+#![tactic(auto)]
+
+mod laws;
+#[cfg(test)]
+mod tests;
+
+pub use laws::streams;

@@ -1,9 +1,0 @@
-use script_text::ScriptReason;
-
-/// How the taking of a line ended.
-#[derive(Clone, Copy)]
-pub(crate) enum Taken {
-    Went,
-    Faulty(ScriptReason),
-    NoMemory,
-}
