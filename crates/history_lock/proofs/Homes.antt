@@ -5,7 +5,8 @@ use Rattle.std.proofs.lemmas.List.{length-take-le}
 use Rattle.history_lock.specs.declared.known.Entry.{Entry}
 use Rattle.history_lock.specs.declared.known.Known.{Known}
 use Rattle.history_lock.specs.History.{entry, events, Extends}
-use Rattle.history_lock.specs.Rule.{AtHome, Out}
+use Rattle.history_lock.specs.Rule.{AtHome}
+use Rattle.history_lock.specs.Steps.{Out}
 use Rattle.history_lock.proofs.Histories.{extends_long, take_events, take_all, events_more, length_events}
 
 -- a slot that is named twice

@@ -4,7 +4,7 @@ use Rattle.std.specs.Prelude.{Option, is_some}
 use Rattle.atomic_table.specs.Table.{Me}
 use Rattle.history_lock.specs.declared.known.Entry.{Entry}
 use Rattle.history_lock.specs.declared.known.Known.{Known}
-use Rattle.history_lock.specs.Rule.{with_seen, with_ticket}
+use Rattle.history_lock.specs.Views.{given}
 use Rattle.history_lock.specs.PassViews.{Slots, Whole}
 
 pub idle : {S E : Type 0} (t : Option ℕ) (xs : List (Entry E)) (cs : List (ℕ × Option S)) → Slots t xs cs → is_some t ≡ false → (t ≡ None) × (cs ≡ [])
@@ -16,5 +16,7 @@ busy None xs cs h e = absurd (true≢false (sym e))
 busy (Some t) xs cs h e = (ap Some h.0, h.1)
 
 module _ {S E G : Type 0} where
-  pub whole_after : (v : Known E G) (cs : List (ℕ × Option S)) (xs : List (Entry E)) (me : Me (Option S) (Known E G)) → Whole (v, cs) → me ≡ (with_ticket (with_seen v xs) None, []) → Whole me
-  whole_after v cs xs me h e = subst Whole (sym e) record { number_is = h.number_is; living = h.living; slots = refl }
+  pub whole_after : (v : Known E G) (cs : List (ℕ × Option S)) (n : ℕ) (e : E) (me : Me (Option S) (Known E G))
+      → Whole (v, cs) → me ≡ (given v n e, []) → Whole me
+  whole_after v cs n e me h is = subst Whole (sym is)
+      record { number_is = h.number_is; living = h.living; slots = refl }

@@ -19,9 +19,11 @@ pub struct Known<E, G> {
     pub parent: Option<u64>,
     /// The beginning of the history that it has seen.
     pub seen: LinkedList<Entry<E>>,
-    /// The number of a pass that was joined to it, until the two lists are compared, and what that one had seen.
+    /// The number of a pass that was joined to it, until the two lists are compared, what that one had seen, and the
+    /// data that it knew.
     pub teller: Option<u64>,
     pub told: LinkedList<Entry<E>>,
+    pub told_basis: Option<G>,
     /// The data of the first state.
     pub basis: G,
     /// Whether it was joined to another pass, and so never steps again.
@@ -35,7 +37,8 @@ pub struct OneHistory;
 
 impl<S: Stands> TableRule<Option<S>, Known<S::Event, S::Basis>, Snapshot<S>> for OneHistory {
     ghost use Rattle.std.specs.Prelude.{[], Some, None};
-    ghost use Rattle.history_lock.specs.Rule.{knows, Kept};
+    ghost use Rattle.history_lock.specs.Rule.{Kept};
+    ghost use Rattle.history_lock.specs.Views.{knows};
 
     ghost holds = { λ key. Kept S.stands S.basis key.value };
 

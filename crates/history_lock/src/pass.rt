@@ -5,7 +5,8 @@ use std::marker::Model;
 
 /// A thread's part in the history of one lock.
 ///
-/// Contracts see it as a `PassView`: which lock it is of, its number, the data that no event changes, the beginning of the history that it has seen, and whether it holds the turn.
+/// Contracts see it as a `PassView`: which lock it is of, its number, the data that no event changes, the beginning of
+/// the history that it has seen, and whether it holds the turn.
 #[derive(Drop)]
 pub struct Pass<S: Stands> {
     pub(crate) seat: PassSeat<S>,

@@ -1,5 +1,6 @@
 //! What each step on the table tells the pass that makes it.
-ghost use Rattle.history_lock.specs.Rule.{Numbered, Compares, Draws, Looks, Takes, Puts, Raises, copy, informed, spent};
+ghost use Rattle.history_lock.specs.Steps.{Numbered, Compares, Draws, Looks, Takes, Puts, Raises, Rings};
+ghost use Rattle.history_lock.specs.Views.{copy, informed, spent};
 
 use crate::known::Known;
 use crate::stands::{Made, Stands};
@@ -55,6 +56,13 @@ pub(crate) struct Raise<M> {
 
 impl<S: Stands, M: Made<S>> Play<Option<S>, Known<S::Event, S::Basis>> for Raise<M> {
     ghost then = { Raises M.event };
+}
+
+// Rings a bell.
+pub(crate) struct Ring;
+
+impl<S, E, G> Play<Option<S>, Known<E, G>> for Ring {
+    ghost then = { Rings };
 }
 
 // Splits a pass off.

@@ -2,11 +2,12 @@ ghost use Rattle.std.specs.Prelude.{◌≡◌, ◌++◌, [], ◌∷◌, false, I
 ghost use Rattle.history_lock.specs.History.{entry, own};
 
 use crate::{HistoryLock, Made, Pass, Spent, Stands};
-use std::alloc::AllocError;
+use std::alloc::{AllocError, Global};
 use std::sync::Wait;
 use std::test::*;
 use std::thread;
 use std::thread::{Promise, Threads};
+use std::time::{Clock, Duration};
 
 // A state that counts its turns. Of an event it is known only that it was one.
 #[derive(Drop)]
@@ -45,7 +46,8 @@ fn take_turn<R: Wait>(
 ) -> Result<u64, Spent>
     requires { (pass.old.lock ≡ lock.now) × (pass.old.has_turn ≡ false) }
     ensures same { pass.new ≡ record pass.old { seen = pass.new.seen } }
-    ensures own { IfOk result (λ _. own pass.old.number pass.new.seen ≡ own pass.old.number pass.old.seen ++ entry pass.old.number tt ∷ []) }
+    ensures own { IfOk result (λ _.
+        own pass.old.number pass.new.seen ≡ own pass.old.number pass.old.seen ++ entry pass.old.number tt ∷ []) }
 {
     let mut turn = lock.turn(rt, pass)?;
     let before = turn.state().turns;
@@ -85,14 +87,16 @@ fn in_two_threads<R: Threads + Wait + Sync>(
     second: Pass<Count>,
     times: u32,
 ) -> Result<Pass<Count>, AllocError>
-    requires { (first.lock ≡ lock.now) × (first.has_turn ≡ false) × (second.lock ≡ lock.now) × (second.has_turn ≡ false) }
+    requires first { (first.lock ≡ lock.now) × (first.has_turn ≡ false) }
+    requires second { (second.lock ≡ lock.now) × (second.has_turn ≡ false) }
     ensures { IfOk result (λ pass. (pass.lock ≡ lock.now) × (pass.has_turn ≡ false)) }
 {
     thread::scope(
         thread::scope_env(),
         rt,
         |scope| -> Result<Pass<Count>, AllocError>
-            requires { (first.lock ≡ lock.now) × (first.has_turn ≡ false) × (second.lock ≡ lock.now) × (second.has_turn ≡ false) }
+            requires first { (first.lock ≡ lock.now) × (first.has_turn ≡ false) }
+            requires second { (second.lock ≡ lock.now) × (second.has_turn ≡ false) }
             ensures { IfOk result (λ pass. (pass.lock ≡ lock.entry.now) × (pass.has_turn ≡ false)) }
         {
             let first = scope.spawn_with(OfLock(lock), move || take_turns(rt, lock, first, times))?;
@@ -113,6 +117,68 @@ fn two_threads_of_a_thousand_turns_make_one_history(rt: HostRuntime) -> Result<(
     let second = lock.split(&mut first)?;
     let mut pass = in_two_threads(&rt, &lock, first, second, 1000)?;
     assert_eq!(&rt; take_turn(&rt, &lock, &mut pass), Ok(2000));
+    Ok(())
+}
+
+// A thread's part: some turns by a pass of its own, each of which it holds for so long that others wait asleep.
+#[derive(Drop)]
+struct LongTurns<'a> {
+    lock: &'a HistoryLock<Count>,
+    pass: Pass<Count>,
+    ghost ours: { (pass.lock ≡ lock.now) × (pass.has_turn ≡ false) },
+}
+
+impl<'a> LongTurns<'a> {
+    fn run<R: Wait + Clock>(self, rt: &R) -> Result<(), Spent> {
+        let LongTurns { lock, mut pass } = self;
+        for _ in 0..8 {
+            hold_turn(rt, lock, &mut pass)?;
+        }
+        Ok(())
+    }
+}
+
+fn hold_turn<R: Wait + Clock>(
+    rt: &R,
+    lock: &HistoryLock<Count>,
+    pass: &mut Pass<Count>,
+) -> Result<(), Spent>
+    requires { (pass.old.lock ≡ lock.now) × (pass.old.has_turn ≡ false) }
+    ensures { pass.new ≡ record pass.old { seen = pass.new.seen } }
+{
+    let mut turn = lock.turn(rt, pass)?;
+    thread::sleep(rt, Duration::from_micros(100));
+    turn.state().turns += 1;
+    lock.give::<OneTurn>(pass, turn);
+    Ok(())
+}
+
+fn long_turns<'a>(
+    alloc: Global,
+    lock: &'a HistoryLock<Count>,
+    pass: &mut Pass<Count>,
+    threads: u64,
+) -> Result<Vec<LongTurns<'a>>, Fail>
+    requires { (pass.old.lock ≡ lock.now) × (pass.old.has_turn ≡ false) }
+    ensures { (pass.new.lock ≡ pass.old.lock) × (pass.new.has_turn ≡ false) }
+{
+    let mut works = Vec::new(alloc);
+    for _ in 0..threads {
+        let pass = lock.split(pass)?;
+        works.push(LongTurns { lock, pass })?;
+    }
+    Ok(works)
+}
+
+// Where one of them slept on while its ticket is served, the test would not end.
+#[test]
+fn all_of_64_threads_come_to_their_turns(rt: HostRuntime) -> Result<(), Fail> {
+    let (lock, mut pass) = HistoryLock::new(rt.alloc(), Count { turns: 0 })?;
+    let works = long_turns(rt.alloc(), &lock, &mut pass, 64)?;
+    for done in thread::map_vec(&rt, works, &|work: LongTurns| work.run(&rt))? {
+        assert_eq!(&rt; done, Ok(()));
+    }
+    assert_eq!(&rt; take_turn(&rt, &lock, &mut pass), Ok(512));
     Ok(())
 }
 
