@@ -1,0 +1,14 @@
+pub mod Lists
+pub mod Exact
+pub mod Longer
+pub mod Alls
+pub mod Rising
+pub mod Views
+pub mod Seated
+pub mod Chosen
+pub mod Choosing
+pub mod Keyed
+pub mod Finding
+pub mod Rehoming
+pub mod Entering
+pub mod Steps

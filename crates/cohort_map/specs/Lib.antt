@@ -1,0 +1,7 @@
+pub mod Keys
+pub mod KeyOrder
+pub mod Entries
+pub mod Batches
+pub mod Indexed
+pub mod Seats
+pub mod Choice

@@ -1,0 +1,17 @@
+//! Subscriptions in their cohorts: which of them share one evaluation, which are due, and which are members of open jobs.
+#![tactic(auto)]
+
+mod choice;
+mod key;
+mod keys;
+mod map;
+mod member;
+mod order;
+mod seat;
+#[cfg(test)]
+mod tests;
+
+pub use key::PollerKey;
+pub use map::CohortMap;
+pub use member::{Member, MemberList, SubList};
+pub use order::cohort_laws;

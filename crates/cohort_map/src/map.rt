@@ -1,0 +1,261 @@
+ghost use Rattle.std.specs.Prelude.{◌≡◌, ◌<◌, ◌≤◌, true, [], ◌∷◌, ◌++◌, All, Contains, option_map, length, IsTrue, IfOk, OnOk, OnErr};
+ghost use Rattle.std.specs.Option.{option_copied};
+ghost use Rattle.std.specs.List.{AllByRecursion};
+ghost use Rattle.cohort_map.specs.Keys.{with_cursor};
+ghost use Rattle.cohort_map.specs.Seats.{IsReadyWithin, IsReadyTo, ready_of};
+
+use crate::choice::batch_of;
+use crate::key::{CohortKey, PollerKey};
+use crate::keys::Keys;
+use crate::member::{MemberList, SubList};
+use crate::order::copy_key;
+use crate::seat::{
+    ReadySeat, Seat, close, cohort_of, count_due, drop_empty_end, end, is_busy, live_in, move_to,
+    open, tick,
+};
+use plan_core::Binding;
+use scalar_val::{NoMemory, Val, cmp, copy_val};
+use std::alloc::Global;
+use std::marker::Model;
+
+/// A cohort's key with another cursor.
+fn key_with(alloc: Global, key: &CohortKey, cursor: &Val) -> Result<CohortKey, NoMemory>
+    ensures { IfOk result (λ other. other ≡ record { poller = key.now.poller; binding = with_cursor cursor.now key.now.binding }) }
+{
+    let CohortKey { poller, binding } = copy_key(alloc, key)?;
+    let Binding { vars, session, .. } = binding;
+    let binding = Binding {
+        vars,
+        session,
+        cursor: copy_val(alloc, cursor)?,
+    };
+    Ok(CohortKey { poller, binding })
+}
+
+/// Makes sure that there is a flag for each of so many cohorts and one more.
+fn make_flag(flags: &mut Vec<bool>, count: usize) -> Result<(), NoMemory>
+    requires { count ≤ length flags.old.items }
+    ensures ok { OnOk result (count < length flags.new.items) }
+    ensures kept { length flags.old.items ≤ length flags.new.items }
+{
+    if flags.len() == count {
+        flags.push(false)?;
+    }
+    Ok(())
+}
+
+/// The cohort to which a ready pair moves.
+fn ready_cohort(keys: &Keys, ready: &[ReadySeat], sub: u64, cursor: &Val) -> usize
+    requires within { AllByRecursion (IsReadyWithin (length keys.now)) ready.now }
+    requires pair { Contains (ready_of keys.now ready.now) (record { number = sub; cursor = cursor.now }) }
+    ensures { IsReadyTo keys.now ready.now sub cursor.now result }
+{
+    for seat in ready {
+        if seat.number == sub && cmp(&keys.get(seat.cohort).binding.cursor, cursor).is_eq() {
+            return seat.cohort;
+        }
+    }
+    unreachable!()
+}
+
+/// Subscriptions, grouped in pollers and cohorts. Contracts see the list of its entries in order of number, and the list of
+/// ready pairs of a number and a cursor.
+///
+/// Subscriptions of one poller have equal operation words, roles and canonical texts, and those of one cohort also equal
+/// values of variables, session values and cursors (after Hasura's "Live queries").
+#[derive(Drop)]
+pub struct CohortMap {
+    keys: Keys,
+    seats: Vec<Seat>,
+    busy: Vec<bool>,
+    ready: Vec<ReadySeat>,
+}
+
+impl Model for CohortMap {
+    ghost use Rattle.std.specs.Prelude.{◌≤◌, length};
+    ghost use Rattle.cohort_map.specs.Entries.{Held};
+
+    ghost Value = { Held };
+
+    ghost use Rattle.cohort_map.specs.Seats.{held, IsSeated};
+
+    ghost view = { λ m. held m.keys m.seats.items m.ready.items };
+
+    ghost invariant = { λ m. IsSeated m.keys m.seats.items m.ready.items × (length m.keys ≤ length m.busy.items) };
+}
+
+impl CohortMap {
+    ghost use Rattle.cohort_map.specs.Entries.{entered, has, left, entry_at, members_with, is_busy_by, ticked, due_count, has_stream, rehomed};
+    ghost use Rattle.cohort_map.specs.Batches.{batch_of, opened, closed};
+
+    /// A map without a subscription, which takes no memory.
+    pub fn new(alloc: Global) -> CohortMap
+        ensures entries { result.entries ≡ [] }
+        ensures ready { result.ready ≡ [] }
+    {
+        CohortMap {
+            keys: Keys::new(alloc),
+            seats: Vec::new(alloc),
+            busy: Vec::new(alloc),
+            ready: Vec::new(alloc),
+        }
+    }
+
+    /// Adds a subscription, which is live and not due. It needs a number above all earlier ones. For want of memory nothing
+    /// is added.
+    pub fn join(
+        &mut self,
+        alloc: Global,
+        sub: u64,
+        poller: PollerKey,
+        binding: Binding,
+    ) -> Result<(), NoMemory>
+        requires above { All (λ e. e.number < sub) self.old.entries }
+        requires apart { All (λ r. r.number < sub) self.old.ready }
+        ensures ok { OnOk result (self.new.entries ≡ self.old.entries ++ entered sub poller binding ∷ []) }
+        ensures err { OnErr result (self.new.entries ≡ self.old.entries) }
+        ensures ready { self.new.ready ≡ self.old.ready }
+    {
+        make_flag(&mut self.busy, self.keys.len())?;
+        let cohort = self.keys.place_of(alloc, CohortKey { poller, binding })?;
+        drop_empty_end(&mut self.seats);
+        self.seats.push(Seat {
+            number: sub,
+            cohort,
+            live: true,
+            due: false,
+            job: None,
+        })?;
+        Ok(())
+    }
+
+    /// Ends a subscription, which takes it out of the due ones. Its entry stays while it is a member of an open job, and ending
+    /// it once more changes nothing. It is false exactly where the number isn't in the map. It takes no memory.
+    pub fn leave(&mut self, sub: u64) -> bool
+        ensures entries { self.new.entries ≡ left sub self.old.entries }
+        ensures ready { self.new.ready ≡ self.old.ready }
+        ensures answer { result ≡ has sub self.old.entries }
+    {
+        end(&mut self.seats, sub)
+    }
+
+    /// The values that a subscription's plan is run with, or `None` where the number isn't in the map. It takes no memory.
+    pub fn binding_of(&self, sub: u64) -> Option<&Binding>
+        ensures { option_copied result ≡ option_map (λ e. e.binding) (entry_at sub self.now.entries) }
+    {
+        match cohort_of(&self.seats, sub) {
+            Some(cohort) => Some(&self.keys.get(cohort).binding),
+            None => None,
+        }
+    }
+
+    /// The live numbers in the cohort of a number, in ascending order; none where the number isn't in the map.
+    pub fn members(&self, alloc: Global, sub: u64) -> Result<SubList, NoMemory>
+        ensures { IfOk result (λ subs. subs ≡ members_with sub self.now.entries) }
+    {
+        self.keys.apart();
+        match cohort_of(&self.seats, sub) {
+            Some(cohort) => live_in(alloc, &self.seats, cohort),
+            None => Ok(SubList::new(alloc)),
+        }
+    }
+
+    /// Whether the cohort of a number has a member, live or ended, in an open job; false where the number isn't in the map.
+    /// It takes no memory.
+    pub fn busy(&self, sub: u64) -> bool
+        ensures { result ≡ is_busy_by self.now.entries (entry_at sub self.now.entries) }
+    {
+        self.keys.apart();
+        match cohort_of(&self.seats, sub) {
+            Some(cohort) => is_busy(&self.seats, cohort),
+            None => false,
+        }
+    }
+
+    /// Makes the live subscriptions due whose cohorts have no member, live or ended, in an open job, and no others. It gives
+    /// their number, and takes no memory.
+    pub fn tick(&mut self) -> u64
+        ensures entries { self.new.entries ≡ ticked self.old.entries }
+        ensures ready { self.new.ready ≡ self.old.ready }
+        ensures answer { result ≡ due_count self.new.entries }
+    {
+        self.keys.apart();
+        tick(&mut self.seats, &mut self.busy)
+    }
+
+    /// How many subscriptions are due. It takes no memory.
+    pub fn due(&self) -> u64
+        ensures { result ≡ due_count self.now.entries }
+    {
+        count_due(&self.seats)
+    }
+
+    /// The members of the next job: the poller is that of the least due number, its cohorts with a due member stand in the
+    /// order of their least due numbers, and the first `limit` of them are taken. The members are all live subscriptions of
+    /// these, in ascending order, each with the place of its cohort. It is empty exactly where nobody is due.
+    pub fn batch(&self, alloc: Global, limit: u32) -> Result<MemberList, NoMemory>
+        requires { 1 ≤ limit }
+        ensures { IfOk result (λ members. members ≡ batch_of limit self.now.entries) }
+    {
+        self.keys.apart();
+        batch_of(alloc, &self.keys, &self.seats, limit)
+    }
+
+    /// Marks the members of a job with it; they are no longer due. It takes no memory.
+    pub fn open_job(&mut self, job: u64, members: &MemberList)
+        ensures entries { self.new.entries ≡ opened job members.now self.old.entries }
+        ensures ready { self.new.ready ≡ self.old.ready }
+    {
+        open(&mut self.seats, job, members.as_slice())
+    }
+
+    /// Takes the marks of a job away. Its live members become due where `due` is true, and its ended ones are dropped. It takes
+    /// no memory.
+    pub fn close_job(&mut self, job: u64, due: bool)
+        ensures entries { self.new.entries ≡ closed job due self.old.entries }
+        ensures ready { self.new.ready ≡ self.old.ready }
+    {
+        close(&mut self.seats, job, due)
+    }
+
+    /// Makes it ready that a stream is moved to a cursor, which changes no entry. It needs the number of a stream of the map:
+    /// of an entry whose cursor isn't null. For want of memory nothing is added.
+    pub fn ready(&mut self, alloc: Global, sub: u64, cursor: &Val) -> Result<(), NoMemory>
+        requires { IsTrue (has_stream sub self.old.entries) }
+        ensures entries { self.new.entries ≡ self.old.entries }
+        ensures ok { OnOk result (self.new.ready ≡ self.old.ready ++ record { number = sub; cursor = cursor.now } ∷ []) }
+        ensures err { OnErr result (self.new.ready ≡ self.old.ready) }
+    {
+        make_flag(&mut self.busy, self.keys.len())?;
+        let before = match cohort_of(&self.seats, sub) {
+            Some(cohort) => self.keys.get(cohort),
+            None => unreachable!(),
+        };
+        let key = key_with(alloc, before, cursor)?;
+        let cohort = self.keys.place_of(alloc, key)?;
+        self.ready.push(ReadySeat {
+            number: sub,
+            cohort,
+        })?;
+        Ok(())
+    }
+
+    /// Moves a stream to a cursor; all other entries stay. It needs a ready pair whose number is in the map, and takes no memory.
+    pub fn rehome(&mut self, sub: u64, cursor: &Val)
+        requires pair { Contains self.old.ready (record { number = sub; cursor = cursor.now }) }
+        requires there { IsTrue (has sub self.old.entries) }
+        ensures entries { self.new.entries ≡ rehomed sub cursor.now self.old.entries }
+        ensures ready { self.new.ready ≡ self.old.ready }
+    {
+        let cohort = ready_cohort(&self.keys, &self.ready, sub, cursor);
+        move_to(&mut self.seats, sub, cohort);
+    }
+
+    /// Empties the list of ready pairs. It takes no memory.
+    pub fn unready(&mut self)
+        ensures entries { self.new.entries ≡ self.old.entries }
+        ensures ready { self.new.ready ≡ [] }
+    {
+        self.ready.clear();
+    }
+}

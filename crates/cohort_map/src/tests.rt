@@ -1,0 +1,135 @@
+ghost use Rattle.std.specs.Prelude.{◌≤◌, ◌≡◌};
+
+use crate::{CohortMap, MemberList, PollerKey};
+use plan_core::{Binding, Slot, SlotList, ValList};
+use scalar_val::{NoMemory, Str, Val, Word};
+use std::alloc::Global;
+use std::test::Fail;
+
+fn poller(alloc: Global, role: &str) -> Result<PollerKey, NoMemory> {
+    Ok(PollerKey {
+        word: Word::Subscription,
+        role: Str::of(alloc, role)?,
+        canon: Str::of(alloc, "subscription user:user{id:id}")?,
+    })
+}
+
+/// Values with one variable and one session value.
+fn binding(alloc: Global, variable: i32, session: i32) -> Result<Binding, NoMemory> {
+    let mut vars = SlotList::new(alloc);
+    let mut values = ValList::new(alloc);
+    if vars.push(Slot::One(Val::Int(variable))).is_err() {
+        return Err(NoMemory);
+    }
+    if values.push(Val::Int(session)).is_err() {
+        return Err(NoMemory);
+    }
+    Ok(Binding {
+        vars,
+        session: values,
+        cursor: Val::Null,
+    })
+}
+
+/// A map of the subscriptions 1, 2 and so on, each with its role, variable and session value.
+fn filled(alloc: Global, values: &[(&str, i32, i32)]) -> Result<CohortMap, NoMemory> {
+    let mut map = CohortMap::new(alloc);
+    let mut next = 1u64;
+    for value in values {
+        let poller = poller(alloc, value.0)?;
+        let binding = binding(alloc, value.1, value.2)?;
+        map.join(alloc, next, poller, binding)?;
+        next += 1;
+    }
+    Ok(map)
+}
+
+/// The numbers and result ids of the next batch, each with a space behind it.
+fn told(alloc: Global, members: &MemberList) -> Result<String, NoMemory> {
+    let mut text = String::new(alloc);
+    for member in members.as_slice() {
+        let one = format!(in alloc; "{}:{} ", member.sub, member.id)?;
+        text.push_str(one.as_str())?;
+    }
+    Ok(text)
+}
+
+/// Opens the next job with at most so many cohorts, and tells its members.
+fn take(alloc: Global, map: &mut CohortMap, job: u64, limit: u32) -> Result<String, NoMemory>
+    requires { 1 ≤ limit }
+{
+    let members = map.batch(alloc, limit)?;
+    map.open_job(job, &members);
+    told(alloc, &members)
+}
+
+#[test]
+fn subscriptions_beyond_a_batch_come_with_the_next_one(rt: HostRuntime) -> Result<(), Fail> {
+    let alloc = rt.alloc();
+    let mut map = filled(
+        alloc,
+        [("user", 1, 0), ("user", 2, 0), ("user", 3, 0)].as_slice(),
+    )?;
+    assert!(rt; map.tick() == 3);
+    assert_eq!(rt; take(alloc, &mut map, 1, 2)?.as_str(), "1:1 2:2 ");
+    map.close_job(1, false);
+    assert_eq!(rt; take(alloc, &mut map, 2, 2)?.as_str(), "3:1 ");
+    assert!(rt; map.due() == 0);
+    Ok(())
+}
+
+#[test]
+fn equal_variables_share_a_cohort(rt: HostRuntime) -> Result<(), Fail> {
+    let alloc = rt.alloc();
+    let mut map = filled(
+        alloc,
+        [("user", 7, 1), ("user", 7, 1), ("user", 7, 2)].as_slice(),
+    )?;
+    assert!(rt; map.tick() == 3);
+    assert_eq!(rt; map.members(alloc, 1)?.as_slice(), [1, 2].as_slice());
+    assert_eq!(rt; take(alloc, &mut map, 1, 1)?.as_str(), "1:1 2:1 ");
+    assert_eq!(rt; take(alloc, &mut map, 2, 1)?.as_str(), "3:1 ");
+    Ok(())
+}
+
+#[test]
+fn another_role_has_a_batch_of_its_own(rt: HostRuntime) -> Result<(), Fail> {
+    let alloc = rt.alloc();
+    let mut map = filled(
+        alloc,
+        [("user", 1, 0), ("admin", 1, 0), ("user", 2, 0)].as_slice(),
+    )?;
+    assert!(rt; map.tick() == 3);
+    assert_eq!(rt; take(alloc, &mut map, 1, 100)?.as_str(), "1:1 3:2 ");
+    assert_eq!(rt; take(alloc, &mut map, 2, 100)?.as_str(), "2:1 ");
+    assert_eq!(rt; take(alloc, &mut map, 3, 100)?.as_str(), "");
+    Ok(())
+}
+
+#[test]
+fn an_abandoned_jobs_members_are_due_again(rt: HostRuntime) -> Result<(), Fail> {
+    let alloc = rt.alloc();
+    let mut map = filled(alloc, [("user", 1, 0)].as_slice())?;
+    assert!(rt; map.tick() == 1);
+    assert_eq!(rt; take(alloc, &mut map, 1, 100)?.as_str(), "1:1 ");
+    map.close_job(1, true);
+    assert_eq!(rt; take(alloc, &mut map, 2, 100)?.as_str(), "1:1 ");
+    map.close_job(2, false);
+    assert_eq!(rt; take(alloc, &mut map, 3, 100)?.as_str(), "");
+    Ok(())
+}
+
+#[test]
+fn an_ended_member_keeps_its_cohort_busy(rt: HostRuntime) -> Result<(), Fail> {
+    let alloc = rt.alloc();
+    let mut map = filled(alloc, [("user", 1, 0), ("user", 1, 0)].as_slice())?;
+    assert!(rt; map.tick() == 2);
+    assert_eq!(rt; take(alloc, &mut map, 1, 100)?.as_str(), "1:1 2:1 ");
+    assert!(rt; map.leave(1));
+    assert!(rt; map.leave(1));
+    assert!(rt; map.tick() == 0);
+    map.close_job(1, true);
+    assert!(rt; !map.leave(1));
+    assert!(rt; map.tick() == 1);
+    Ok(())
+}
