@@ -12,7 +12,9 @@ use Rattle.role_model.specs.Texts.{value_of}
 use Rattle.request_model.specs.Strings.{Text}
 use Rattle.scalar_val.specs.Ordered.{included}
 use Rattle.query_model.specs.declared.fault.QueryFault.{QueryFault}
-use Rattle.query_model.specs.Queries.{SessionSlot, SessionValue, view_of, selection_slots}
+use Rattle.query_model.specs.declared.session.SessionSlot.{SessionSlot}
+use Rattle.query_model.specs.declared.session.SessionValue.{SessionValue}
+use Rattle.query_model.specs.Queries.{view_of, selection_slots}
 use Rattle.query_model.specs.Admission.{Admitted, slot_value, spelled_value, with_slot, slots_given, role_view}
 use Rattle.query_model.specs.AdmissionLaws.{IsAdmitted}
 use Rattle.admission_laws.proofs.BareNames.{adding}

@@ -20,7 +20,8 @@ use Rattle.request_model.specs.Strings.{Text}
 use Rattle.request_model.specs.Selection.{concatenated}
 use Rattle.request_model.proofs.ReadArguments.{firsts}
 use Rattle.query_model.specs.Names.{kind_of, pair_name, pair_value, argument, literal_value, variable_by, pairs_by, items_by}
-use Rattle.query_model.specs.Variables.{Variable, variable_slot, value_by, value_read, values_by, values_read, number_read}
+use Rattle.query_model.specs.declared.variable.Variable.{Variable}
+use Rattle.query_model.specs.Variables.{variable_slot, value_by, value_read, values_by, values_read, number_read}
 use Rattle.plan_model.specs.Values.{number_in}
 use Rattle.query_model.specs.Conditions.{Reader, Conditions, operator_filter, column_filter, conditions_step, conditions_in, condition_at, where_filter, compares}
 use Rattle.query_model.specs.Queries.{value_names, value_names_step, pair_names_step}

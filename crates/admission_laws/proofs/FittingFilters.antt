@@ -23,7 +23,8 @@ use Rattle.plan_model.specs.Values.{is_bool, operand_value}
 use Rattle.request_model.specs.Strings.{Text}
 use Rattle.request_model.proofs.ReadArguments.{firsts}
 use Rattle.query_model.specs.Names.{kind_of}
-use Rattle.query_model.specs.Queries.{SessionSlot, slot_cmp, session_name, slots_of, filter_slots_step, filter_slots}
+use Rattle.query_model.specs.declared.session.SessionSlot.{SessionSlot}
+use Rattle.query_model.specs.Queries.{slot_cmp, session_name, slots_of, filter_slots_step, filter_slots}
 use Rattle.query_model.specs.Results.{items_changed, changed_step, changed}
 use Rattle.plan_model.specs.PlanFits.{width, has_column, columns_fit_step, columns_fit}
 use Rattle.plan_model.specs.BindingFits.{values_fit_step, values_fit}

@@ -23,8 +23,9 @@ use Rattle.request_model.proofs.ReadArguments.{firsts}
 use Rattle.query_model.specs.declared.fault.FaultKind.TheVariants as fault
 use Rattle.query_model.specs.declared.fault.QueryFault.{QueryFault}
 use Rattle.query_model.specs.Names.{Root, RowsOf, RowOf, StreamOf, NoRoot, Meant, Typename, AColumn, ALink, Unseen, link_or_none, column_or, meant, table_called, table_by_key, table_streamed, root_or, root_meant, pair_value}
-use Rattle.query_model.specs.Variables.{Variable}
-use Rattle.query_model.specs.Queries.{SessionSlot, value_names, field_names_step, tables_by, tables_step, tables_below}
+use Rattle.query_model.specs.declared.variable.Variable.{Variable}
+use Rattle.query_model.specs.declared.session.SessionSlot.{SessionSlot}
+use Rattle.query_model.specs.Queries.{value_names, field_names_step, tables_by, tables_step, tables_below}
 use Rattle.query_model.specs.Refusals.{refusal, first_of}
 use Rattle.query_model.specs.ArgumentFaults.{arguments_fault, missing_fault, list_arguments, no_arguments, link_arguments}
 use Rattle.query_model.specs.Walk.{object_fault, meant_fault, field_fault_step, field_fault}

@@ -25,9 +25,10 @@ use Rattle.request_model.specs.SelectionLaws.{bare_cursor, bare_argument}
 use Rattle.query_model.specs.declared.fault.FaultKind.TheVariants as fault
 use Rattle.query_model.specs.declared.fault.QueryFault.{QueryFault}
 use Rattle.query_model.specs.Names.{pair_name, pair_value, argument, variable_by, variable_in, pairs_in, items_in, enum_in}
-use Rattle.query_model.specs.Variables.{Variable}
+use Rattle.query_model.specs.declared.variable.Variable.{Variable}
 use Rattle.query_model.specs.Conditions.{order_named, order_entry, order_in, orders_in, where_filter}
-use Rattle.query_model.specs.Queries.{SessionSlot, value_names, slots_by, table_slots}
+use Rattle.query_model.specs.declared.session.SessionSlot.{SessionSlot}
+use Rattle.query_model.specs.Queries.{value_names, slots_by, table_slots}
 use Rattle.query_model.specs.Refusals.{refusal}
 use Rattle.query_model.specs.ArgumentFaults.{Known, known_fault, judged_by, arguments_fault, list_arguments}
 use Rattle.query_model.specs.ConditionFaults.{where_fault}

@@ -1,5 +1,6 @@
 pub mod OneDocument
 pub mod OneAnswer
+pub mod Selected
 pub mod EachAnswered
 pub mod BareArguments
 pub mod BareNames

@@ -33,7 +33,8 @@ use Rattle.request_model.specs.SelectionLaws.{bare_step, bare_field, essence}
 use Rattle.request_model.proofs.ReadArguments.{firsts}
 use Rattle.query_model.specs.Names.{null_or_fitted, Root, RowsOf, RowOf, StreamOf, NoRoot, Meant, Typename, AColumn, ALink, Unseen, meant, root_meant, key_columns, column_name, kind_of, argument, literal_by, variable_by}
 use Rattle.query_model.specs.Conditions.{where_filter, orders_in}
-use Rattle.query_model.specs.Queries.{SessionSlot, slot_cmp, table_slots, tables_step, tables_below, root_tables, root_of, selection_slots, text_variables}
+use Rattle.query_model.specs.declared.session.SessionSlot.{SessionSlot}
+use Rattle.query_model.specs.Queries.{slot_cmp, table_slots, tables_step, tables_below, root_tables, root_of, selection_slots, text_variables}
 use Rattle.query_model.specs.Plans.{operand_by, operands, permission, count_operand, list_select, one_select, column_condition, key_condition, batch_operand, stream_select, link_select, meant_field, plan_step, plan_field, root_select, plan_with, root_plan, plan_of}
 use Rattle.admission_laws.proofs.BareArguments.{bare_arguments, found_same, form_found, initial_column_same, descends_same}
 use Rattle.admission_laws.proofs.BareNames.{bare_variables, text_variables_are}

@@ -24,9 +24,10 @@ use Rattle.request_model.proofs.ReadArguments.{firsts}
 use Rattle.query_model.specs.declared.fault.FaultKind.TheVariants as fault
 use Rattle.query_model.specs.declared.fault.QueryFault.{QueryFault}
 use Rattle.query_model.specs.Names.{kind_of, pair_name, pair_value, variable_by, variable_in, pairs_by, pairs_in, items_by, items_in}
-use Rattle.query_model.specs.Variables.{Variable}
+use Rattle.query_model.specs.declared.variable.Variable.{Variable}
 use Rattle.query_model.specs.Conditions.{Reader, Conditions, always, compares, operator_filter, column_filter, conditions_step, conditions_in, condition_at, where_filter}
-use Rattle.query_model.specs.Queries.{SessionSlot, value_names, value_names_step, pair_names_step}
+use Rattle.query_model.specs.declared.session.SessionSlot.{SessionSlot}
+use Rattle.query_model.specs.Queries.{value_names, value_names_step, pair_names_step}
 use Rattle.query_model.specs.Refusals.{refusal, refused, first_of, pairs_fault}
 use Rattle.query_model.specs.ConditionFaults.{Judged, operator_fault, column_fault, keys_fault, condition_step, judged, judged_at, where_fault}
 use Rattle.query_model.specs.ValueFaults.{null_by, is_null_literal, is_object, single_fault, list_fault}

@@ -23,9 +23,11 @@ use Rattle.request_model.specs.declared.document.GValue.{GValue}
 use Rattle.request_model.specs.Strings.{Text}
 use Rattle.query_model.specs.declared.fault.FaultKind.TheVariants as fault
 use Rattle.query_model.specs.Names.{literal, literal_value, null_or_fitted, variable_in, items_in}
-use Rattle.query_model.specs.Variables.{VarType, Variable, variable_slot, value_by, value_read}
+use Rattle.query_model.specs.declared.variable.VarType.{VarType}
+use Rattle.query_model.specs.declared.variable.Variable.{Variable}
+use Rattle.query_model.specs.Variables.{variable_slot, value_by, value_read}
 use Rattle.plan_model.specs.Values.{number_in}
-use Rattle.query_model.specs.Queries.{SessionSlot}
+use Rattle.query_model.specs.declared.session.SessionSlot.{SessionSlot}
 use Rattle.query_model.specs.Refusals.{refusal, refused_if, or_then, first_of}
 use Rattle.query_model.specs.ValueFaults.{by_variable, null_fault, literal_fault, single_fault, is_null_slot, list_fault, is_null_literal}
 use Rattle.query_model.specs.CountFaults.{is_below, negative_fault, count_literal_fault, count_fault, batch_fault}

@@ -38,8 +38,11 @@ use Rattle.request_model.specs.SelectionLaws.{bare_argument}
 use Rattle.query_model.specs.declared.fault.FaultKind.TheVariants as fault
 use Rattle.query_model.specs.declared.fault.QueryFault.{QueryFault}
 use Rattle.query_model.specs.Names.{Root, RowsOf, RowOf, StreamOf, NoRoot, key_in, key_columns, column_name, kind_of, literal_value, variable_in, pair_name, pair_value, pairs_in, items_in, argument, pairs_of_first, pairs_or_none, first_pair, initial_column}
-use Rattle.query_model.specs.Variables.{Variable, variable_slot}
-use Rattle.query_model.specs.Queries.{SessionSlot, SessionValue, slot_cmp, value_names, field_names_step, table_slots, root_tables, root_of, selection_slots, text_variables, view_of, binding_of}
+use Rattle.query_model.specs.declared.variable.Variable.{Variable}
+use Rattle.query_model.specs.Variables.{variable_slot}
+use Rattle.query_model.specs.declared.session.SessionSlot.{SessionSlot}
+use Rattle.query_model.specs.declared.session.SessionValue.{SessionValue}
+use Rattle.query_model.specs.Queries.{slot_cmp, value_names, field_names_step, table_slots, root_tables, root_of, selection_slots, text_variables, view_of, binding_of}
 use Rattle.query_model.specs.Refusals.{refusal, refused_if, pairs_fault}
 use Rattle.query_model.specs.ArgumentFaults.{arguments_fault, missing_fault, list_arguments, key_names, key_kind, stream_arguments}
 use Rattle.query_model.specs.ArgumentFaults.{key_arguments}

@@ -7,7 +7,7 @@ use Rattle.request_model.specs.declared.flat.Flat.{Flat}
 use Rattle.role_model.specs.Roles.{View}
 use Rattle.query_model.specs.declared.fault.QueryFault.{QueryFault}
 use Rattle.query_model.specs.Names.{Root, RowsOf, RowOf, StreamOf, NoRoot}
-use Rattle.query_model.specs.Variables.{Variable}
+use Rattle.query_model.specs.declared.variable.Variable.{Variable}
 use Rattle.query_model.specs.Queries.{view_of, root_of, selection_slots, text_variables}
 use Rattle.query_model.specs.Refusals.{or_then}
 use Rattle.query_model.specs.Walk.{root_fault}

@@ -9,8 +9,9 @@ use Rattle.request_model.specs.declared.flat.Flat.{Flat}
 use Rattle.request_model.specs.SelectionLaws.{is_written, essence}
 use Rattle.request_model.proofs.ReadFields.{canonical_tells}
 use Rattle.query_model.specs.declared.fault.QueryFault.{QueryFault}
-use Rattle.query_model.specs.Variables.{Variable}
-use Rattle.query_model.specs.Queries.{SessionValue, selection_slots, view_of}
+use Rattle.query_model.specs.declared.variable.Variable.{Variable}
+use Rattle.query_model.specs.declared.session.SessionValue.{SessionValue}
+use Rattle.query_model.specs.Queries.{selection_slots, view_of}
 use Rattle.query_model.specs.Walk.{walk_fault}
 use Rattle.query_model.specs.Admission.{Admitted, admitted, and_next, unless_fault, one_root, variables_of, slots_given, role_view, query_with}
 use Rattle.query_model.specs.AdmissionLaws.{IsAdmitted, PollersHaveOnePlan}

@@ -19,7 +19,9 @@ use Rattle.request_model.specs.Strings.{Text}
 use Rattle.query_model.specs.declared.fault.FaultKind.{FaultKind}
 use Rattle.query_model.specs.declared.fault.FaultKind.TheVariants as fault
 use Rattle.query_model.specs.declared.fault.QueryFault.{QueryFault}
-use Rattle.query_model.specs.Variables.{VarType, Input, Single, Several, null_unless, or_wrong, as_list, item_values, input_value, counted, type_of, Variable, with_value, typed_variable, variable_of, variable_named, slot_in, variable_slot}
+use Rattle.query_model.specs.declared.variable.VarType.{VarType}
+use Rattle.query_model.specs.declared.variable.Variable.{Variable}
+use Rattle.query_model.specs.Variables.{Input, Single, Several, null_unless, or_wrong, as_list, item_values, input_value, counted, type_of, with_value, typed_variable, variable_of, variable_named, slot_in, variable_slot}
 use Rattle.query_model.specs.Refusals.{refusal, refused, refused_if}
 use Rattle.query_model.specs.ValueFaults.{has_type, declared_fault}
 use Rattle.query_model.specs.Admission.{with_variable, variables_of}
@@ -73,7 +75,7 @@ typed t (One x) = is_null x || (not t.listed && is_of t.kind x)
 typed t (Many xs) = t.listed
 
 abbrev pub Typed : Variable → Type 0
-Typed x = typed x.type x.value ≡ true
+Typed x = typed x.type_ x.value ≡ true
 
 wrong_result : {A : Type 0} (e : FaultKind) (x : A) → ◌≡◌ {A = Result A FaultKind} (Err e) (Ok x) → ⊥
 wrong_result e x h = cc
@@ -115,7 +117,7 @@ variable_typed values d x h = go (type_of d.kind) h
   where
     valued : (t : VarType) (r : Result Slot FaultKind) → ((s : Slot) → r ≡ Ok s → typed t s ≡ true) → with_value d.name t r ≡ Ok x → Typed x
     valued t (Err e) good k = absurd (wrong_result e x k)
-    valued t (Ok s) good k = subst Typed (same_result (record { name = d.name; type = t; value = s }) x k) (good s refl)
+    valued t (Ok s) good k = subst Typed (same_result (record { name = d.name; type_ = t; value = s }) x k) (good s refl)
 
     go : (o : Option VarType) → typed_variable d.name (counted (get_member d.name values) d.default) o ≡ Ok x → Typed x
     go None k = absurd (wrong_result fault.WrongType x k)
@@ -175,9 +177,9 @@ module _ (vars : List Variable) (all : AllByRecursion Typed vars) where
       Declared listed k (variable_slot vars name) × (judge (variable_slot vars name) ≡ None)
   declared listed k judge name h = go (variable_named vars name) refl h
     where
-      listed_is : (b : Bool) (x : Variable) → (if b then x.type.listed else not x.type.listed) ≡ true → x.type.listed ≡ b
+      listed_is : (b : Bool) (x : Variable) → (if b then x.type_.listed else not x.type_.listed) ≡ true → x.type_.listed ≡ b
       listed_is true x e = e
-      listed_is false x e = turned x.type.listed e
+      listed_is false x e = turned x.type_.listed e
         where
           turned : (c : Bool) → not c ≡ true → c ≡ false
           turned true k = absurd (clash (sym k))
@@ -186,8 +188,8 @@ module _ (vars : List Variable) (all : AllByRecursion Typed vars) where
       found : (x : Variable) → variable_named vars name ≡ Some x → (b : Bool) → has_type vars listed k x ≡ b → (if b then judge x.value else refused fault.WrongType name) ≡ None →
           Declared listed k (slot_in (Some x)) × (judge (slot_in (Some x)) ≡ None)
       found x e true t j =
-          let parts = and_parts (same_kind k x.type.kind) (if listed then x.type.listed else not x.type.listed) t in
-          ((x.type, listed_is listed x parts.1, kinds_same k x.type.kind parts.0, (each_found Typed (λ (y : Variable). bytes_eq name y.name) vars x all e).0), j)
+          let parts = and_parts (same_kind k x.type_.kind) (if listed then x.type_.listed else not x.type_.listed) t in
+          ((x.type_, listed_is listed x parts.1, kinds_same k x.type_.kind parts.0, (each_found Typed (λ (y : Variable). bytes_eq name y.name) vars x all e).0), j)
       found x e false t j = absurd (some_none (refusal fault.WrongType name) j)
 
       go : (o : Option Variable) → variable_named vars name ≡ o → declared_fault vars listed k judge name o ≡ None → Declared listed k (slot_in o) × (judge (slot_in o) ≡ None)

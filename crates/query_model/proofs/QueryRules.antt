@@ -24,7 +24,7 @@ use Rattle.query_model.specs.Conditions.{Reader, Conditions, conditions_in, cond
 use Rattle.query_model.specs.Refusals.{refused, first_of}
 use Rattle.query_model.specs.ConditionFaults.{Judged, judged, judged_at, condition_step, key_fault, keys_fault}
 use Rattle.query_model.specs.declared.fault.FaultKind.TheVariants as fault
-use Rattle.query_model.specs.Variables.{Variable}
+use Rattle.query_model.specs.declared.variable.Variable.{Variable}
 use Rattle.query_model.specs.Queries.{value_names, value_names_step, pair_names_step}
 
 -- ---- folds of fields whose step gives a function

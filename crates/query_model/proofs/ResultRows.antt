@@ -141,7 +141,7 @@ stream_from n = record {
   role = codes "admin";
   selection = user_stream;
   session = [];
-  variables = record { name = codes "f"; type = record { kind = kind.Int; listed = false; strict = true; strict_item = false }; value = One (int n) } ∷ [];
+  variables = record { name = codes "f"; type_ = record { kind = kind.Int; listed = false; strict = true; strict_item = false }; value = One (int n) } ∷ [];
 }
 
 admitted_streams : map (λ n. admitted users admin (member (codes "f") (number (unsigned n)) no_members) user_stream) (0 ∷ 5 ∷ []) ≡

@@ -30,7 +30,8 @@ use Rattle.request_model.specs.Strings.{Text}
 use Rattle.request_model.proofs.SelectionRules.{canonical_texts}
 use Rattle.query_model.specs.declared.kind.SubKind.{SubKind}
 use Rattle.query_model.specs.declared.kind.SubKind.TheVariants as sub
-use Rattle.query_model.specs.Queries.{Query, SessionSlot, selection_slots}
+use Rattle.query_model.specs.declared.session.SessionSlot.{SessionSlot}
+use Rattle.query_model.specs.Queries.{Query, selection_slots}
 use Rattle.query_model.specs.Admission.{admitted}
 use Rattle.query_model.specs.Plans.{plan_of}
 use Rattle.query_model.specs.Results.{result}

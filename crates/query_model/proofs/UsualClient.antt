@@ -27,7 +27,7 @@ use Rattle.request_model.specs.Selection.{Operation, flat_of}
 use Rattle.request_model.specs.Canonical.{canonical}
 use Rattle.request_model.proofs.SelectionRules.{selections, canonical_texts}
 use Rattle.query_model.specs.declared.kind.SubKind.TheVariants as sub
-use Rattle.query_model.specs.Variables.{Variable}
+use Rattle.query_model.specs.declared.variable.Variable.{Variable}
 use Rattle.query_model.specs.Queries.{Query, binding_of}
 use Rattle.query_model.specs.Admission.{admitted}
 use Rattle.query_model.specs.Results.{result}
@@ -38,7 +38,7 @@ abbrev plain : Text → Selection
 plain name = s.Field None name [] [] []
 
 abbrev variable : Text → Kind → Slot → Variable
-variable name k value = record { name = name; type = record { kind = k; listed = false; strict = false; strict_item = false }; value = value }
+variable name k value = record { name = name; type_ = record { kind = k; listed = false; strict = false; strict_item = false }; value = value }
 
 -- $n: Int = 2, $withPosts: Boolean!
 abbrev declared : List VarDef
@@ -104,7 +104,7 @@ feed_query = record {
   kind = sub.Live;
   role = codes "reader";
   selection = feed_flat;
-  variables = variable (codes "n") kind.Int (One (int 2)) ∷ record { name = codes "withPosts"; type = record { kind = kind.Bool; listed = false; strict = true; strict_item = false }; value = One (val.Bool true) } ∷ [];
+  variables = variable (codes "n") kind.Int (One (int 2)) ∷ record { name = codes "withPosts"; type_ = record { kind = kind.Bool; listed = false; strict = true; strict_item = false }; value = One (val.Bool true) } ∷ [];
   session = record { slot = record { name = codes "x-hasura-user-id"; kind = kind.Int }; value = int 1 } ∷ [];
 }
 

@@ -15,7 +15,8 @@ use Rattle.request_model.specs.declared.document.VarDef.{VarDef}
 use Rattle.request_model.proofs.SelectionRules.{canonical_texts}
 use Rattle.query_model.specs.declared.fault.FaultKind.{FaultKind}
 use Rattle.query_model.specs.declared.fault.FaultKind.TheVariants as fault
-use Rattle.query_model.specs.Variables.{Variable, variable_of}
+use Rattle.query_model.specs.declared.variable.Variable.{Variable}
+use Rattle.query_model.specs.Variables.{variable_of}
 use Rattle.query_model.proofs.QueryRules.{queries}
 
 abbrev declares : TypeRef → Option GValue → VarDef

@@ -23,8 +23,11 @@ use Rattle.query_model.specs.declared.fault.FaultKind.{FaultKind}
 use Rattle.query_model.specs.declared.fault.FaultKind.TheVariants as fault
 use Rattle.query_model.specs.declared.fault.QueryFault.{QueryFault}
 use Rattle.query_model.specs.Names.{Root, RowsOf, RowOf, StreamOf, NoRoot, kind_of, pair_value, initial_pair, initial_column}
-use Rattle.query_model.specs.Variables.{Variable, variable_of, value_read}
-use Rattle.query_model.specs.Queries.{Query, SessionSlot, SessionValue, root_of, kind_by, selection_slots}
+use Rattle.query_model.specs.declared.variable.Variable.{Variable}
+use Rattle.query_model.specs.Variables.{variable_of, value_read}
+use Rattle.query_model.specs.declared.session.SessionSlot.{SessionSlot}
+use Rattle.query_model.specs.declared.session.SessionValue.{SessionValue}
+use Rattle.query_model.specs.Queries.{Query, root_of, kind_by, selection_slots}
 use Rattle.query_model.specs.Refusals.{refusal}
 use Rattle.query_model.specs.Walk.{walk_fault}
 

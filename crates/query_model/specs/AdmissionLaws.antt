@@ -1,5 +1,5 @@
 -- What holds of admission and of plans. This project's own.
-use Rattle.std.specs.Prelude.{◌≡◌, ◌⊎◌, Option, Some, None, Result, Ok, Err, IsTrue}
+use Rattle.std.specs.Prelude.{◌≡◌, ◌⊎◌, ◌↔◌, Option, Some, None, Result, Ok, Err, IsTrue}
 use Rattle.serde_json.specs.Data.{Members}
 use Rattle.scalar_val.specs.declared.val.Val.{Val}
 use Rattle.role_model.specs.declared.metadata.Metadata.{Metadata}
@@ -11,6 +11,7 @@ use Rattle.request_model.specs.Strings.{Text}
 use Rattle.request_model.specs.SelectionLaws.{is_written}
 use Rattle.query_model.specs.declared.fault.QueryFault.{QueryFault}
 use Rattle.query_model.specs.Queries.{SamePoller, binding_of, view_of}
+use Rattle.query_model.specs.Selecting.{Selects, answered}
 use Rattle.query_model.specs.Admission.{Admitted, admitted, Admits}
 use Rattle.query_model.specs.Plans.{plan_of}
 use Rattle.plan_model.specs.PlanFits.{PlanFits}
@@ -31,6 +32,14 @@ IsAdmittedOrRefused = (m : Metadata) (session : Session) (values : Members) (s :
 abbrev pub IsAnswered : Type 0
 IsAnswered = (m : Metadata) (session : Session) (text : Text) (operation : Option Text) (values : Members) →
     ((a : Result Admitted QueryFault) → Admits m session text operation values a → ⊥) → ⊥
+
+-- a request comes to what its selection is answered with
+abbrev pub AnsweredBySelection : Type 0
+AnsweredBySelection = (m : Metadata) (session : Session) (text : Text) (operation : Option Text) (values : Members)
+    (r : Result Admitted QueryFault) →
+    Admits m session text operation values r
+    ↔ ((x : Result Flat QueryFault) × Selects text operation values x
+    × (r ≡ answered m session (record { selection = x; values = values })))
 
 -- a query with which some request is admitted
 pub record IsAdmitted (m : Metadata) (a : Admitted) : Type 0 where

@@ -13,7 +13,7 @@ use Rattle.request_model.specs.Strings.{Text}
 use Rattle.query_model.specs.declared.fault.FaultKind.TheVariants as fault
 use Rattle.query_model.specs.declared.fault.QueryFault.{QueryFault}
 use Rattle.query_model.specs.Names.{key_columns, kind_of, pair_name, pair_value, argument, column_name}
-use Rattle.query_model.specs.Variables.{Variable}
+use Rattle.query_model.specs.declared.variable.Variable.{Variable}
 use Rattle.query_model.specs.Refusals.{refusal, refused, refused_if, first_of, pairs_fault}
 use Rattle.query_model.specs.ValueFaults.{single_fault}
 use Rattle.query_model.specs.CountFaults.{count_fault, batch_fault}

@@ -14,7 +14,7 @@ use Rattle.request_model.specs.Strings.{Text}
 use Rattle.query_model.specs.declared.fault.FaultKind.TheVariants as fault
 use Rattle.query_model.specs.declared.fault.QueryFault.{QueryFault}
 use Rattle.query_model.specs.Names.{kind_of, pair_name, pair_value, pairs_in}
-use Rattle.query_model.specs.Variables.{Variable}
+use Rattle.query_model.specs.declared.variable.Variable.{Variable}
 use Rattle.query_model.specs.Refusals.{refusal, refused, first_of, pairs_fault, distinct_fault}
 use Rattle.query_model.specs.ValueFaults.{is_object, is_null_literal, single_fault, list_fault}
 

@@ -11,7 +11,8 @@ use Rattle.request_model.specs.Strings.{Text}
 use Rattle.query_model.specs.declared.fault.FaultKind.TheVariants as fault
 use Rattle.query_model.specs.declared.fault.QueryFault.{QueryFault}
 use Rattle.query_model.specs.Names.{literal, literal_value, variable_in}
-use Rattle.query_model.specs.Variables.{Variable, value_read}
+use Rattle.query_model.specs.declared.variable.Variable.{Variable}
+use Rattle.query_model.specs.Variables.{value_read}
 use Rattle.query_model.specs.Refusals.{refused_if, or_then}
 use Rattle.query_model.specs.ValueFaults.{is_null_literal, by_variable, literal_fault, single_fault}
 

@@ -11,6 +11,7 @@ pub mod CursorFaults
 pub mod ArgumentFaults
 pub mod Walk
 pub mod Admission
+pub mod Selecting
 pub mod Results
 pub mod Plans
 pub mod AdmissionLaws

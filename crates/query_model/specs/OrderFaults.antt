@@ -7,7 +7,7 @@ use Rattle.request_model.specs.declared.document.GPair.{GPair}
 use Rattle.query_model.specs.declared.fault.FaultKind.TheVariants as fault
 use Rattle.query_model.specs.declared.fault.QueryFault.{QueryFault}
 use Rattle.query_model.specs.Names.{pair_name, pair_value, pairs_in, items_in, enum_in}
-use Rattle.query_model.specs.Variables.{Variable}
+use Rattle.query_model.specs.declared.variable.Variable.{Variable}
 use Rattle.query_model.specs.Conditions.{order_named}
 use Rattle.query_model.specs.Refusals.{refused, refused_if, first_of}
 use Rattle.query_model.specs.ValueFaults.{is_object, is_null_literal}

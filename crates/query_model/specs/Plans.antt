@@ -33,7 +33,8 @@ use Rattle.request_model.specs.Strings.{Text}
 use Rattle.query_model.specs.Names.{Root, RowsOf, RowOf, StreamOf, NoRoot, Meant, Typename, AColumn, ALink, Unseen, meant, key_columns, column_name, kind_of, argument, literal_value, variable_in, items_in, initial_column, descends}
 use Rattle.query_model.specs.Conditions.{Reader, where_filter, orders_in}
 use Rattle.query_model.specs.ValueFaults.{is_null_literal}
-use Rattle.query_model.specs.Queries.{SessionSlot, slot_cmp, session_name, root_of, selection_slots, text_variables}
+use Rattle.query_model.specs.declared.session.SessionSlot.{SessionSlot}
+use Rattle.query_model.specs.Queries.{slot_cmp, session_name, root_of, selection_slots, text_variables}
 use Rattle.query_model.specs.Results.{Change, changed}
 
 -- A selection that isn't admitted may lack an argument, or have a field that the role doesn't see. These stand in the

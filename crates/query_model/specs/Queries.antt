@@ -32,20 +32,16 @@ use Rattle.scalar_val.specs.Ordered.{distinct_in_order}
 use Rattle.request_model.specs.Selection.{concatenated}
 use Rattle.request_model.specs.Canonical.{canonical}
 use Rattle.request_model.specs.SelectionLaws.{bare_argument}
+use Rattle.query_model.specs.declared.session.SessionSlot.{SessionSlot}
+use Rattle.query_model.specs.declared.session.SessionValue.{SessionValue}
+use Rattle.query_model.specs.declared.variable.Variable.{Variable}
 use Rattle.query_model.specs.declared.kind.SubKind.{SubKind}
 use Rattle.query_model.specs.declared.kind.SubKind.TheVariants as sub
 use Rattle.query_model.specs.Names.{Root, RowsOf, RowOf, StreamOf, NoRoot, Meant, Typename, AColumn, ALink, Unseen, meant, root_meant, kind_of, pair_value}
-use Rattle.query_model.specs.Variables.{Variable, variable_slot}
+use Rattle.query_model.specs.declared.variable.Variable.{Variable}
+use Rattle.query_model.specs.Variables.{variable_slot}
 
--- ---- slots of session variables: a name in lower case and the kind that is wanted of its value
-
-pub record SessionSlot : Type 0 where
-  pub name : Text
-  pub kind : Kind
-
-pub record SessionValue : Type 0 where
-  pub slot : SessionSlot
-  pub value : Val
+-- ---- slots of session variables
 
 -- by name in bytes, and then by kind
 abbrev pub slot_cmp : SessionSlot → SessionSlot → Ordering

@@ -33,7 +33,9 @@ use Rattle.scalar_val.specs.Joined.{named_text}
 use Rattle.query_model.specs.Names.{Root, RowsOf, RowOf, StreamOf, NoRoot, Meant, Typename, AColumn, ALink, Unseen, meant, type_name, key_columns, column_name, kind_of, argument, initial_column, descends}
 use Rattle.query_model.specs.Variables.{value_read, values_read, number_read}
 use Rattle.query_model.specs.Conditions.{Reader, where_filter, orders_in}
-use Rattle.query_model.specs.Queries.{Query, SessionSlot, SessionValue, slot_cmp, session_name, root_of, view_of}
+use Rattle.query_model.specs.declared.session.SessionSlot.{SessionSlot}
+use Rattle.query_model.specs.declared.session.SessionValue.{SessionValue}
+use Rattle.query_model.specs.Queries.{Query, slot_cmp, session_name, root_of, view_of}
 use Rattle.plan_model.specs.Taken.{Extent, All, First, Next, Wanted, joins, is_beyond}
 use Rattle.plan_model.specs.Outcomes.{Pair, wanted_text, quoted_text, null_text, Outcome, result_of}
 

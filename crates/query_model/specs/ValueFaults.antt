@@ -18,7 +18,8 @@ use Rattle.request_model.specs.Strings.{Text}
 use Rattle.query_model.specs.declared.fault.FaultKind.TheVariants as fault
 use Rattle.query_model.specs.declared.fault.QueryFault.{QueryFault}
 use Rattle.query_model.specs.Names.{literal, variable_in, items_in}
-use Rattle.query_model.specs.Variables.{Variable, variable_named}
+use Rattle.query_model.specs.declared.variable.Variable.{Variable}
+use Rattle.query_model.specs.Variables.{variable_named}
 use Rattle.query_model.specs.Refusals.{refused, refused_if, or_then, first_of}
 
 abbrev pub object_by : GValue-F GValue GPair → Bool
@@ -40,7 +41,7 @@ module _ (vars : List Variable) where
 
   -- the declared type is the kind's, or that of a list of the kind
   abbrev pub has_type : Bool → Kind → Variable → Bool
-  has_type listed k x = same_kind k x.type.kind && (if listed then x.type.listed else not x.type.listed)
+  has_type listed k x = same_kind k x.type_.kind && (if listed then x.type_.listed else not x.type_.listed)
 
   abbrev pub declared_fault : Bool → Kind → (Slot → Option QueryFault) → Text → Option Variable → Option QueryFault
   declared_fault listed k judge name None = refused fault.MissingVariable name

@@ -24,18 +24,13 @@ use Rattle.request_model.specs.declared.document.TypeRef.TheOpen.{TypeRef-F}
 use Rattle.request_model.specs.declared.document.TypeRef.TheViews.{out-TypeRef}
 use Rattle.request_model.specs.declared.document.VarDef.{VarDef}
 use Rattle.request_model.specs.Strings.{Text}
+use Rattle.query_model.specs.declared.variable.VarType.{VarType}
+use Rattle.query_model.specs.declared.variable.Variable.{Variable}
 use Rattle.query_model.specs.declared.fault.FaultKind.{FaultKind}
 use Rattle.query_model.specs.declared.fault.FaultKind.TheVariants as fault
 use Rattle.query_model.specs.Names.{literal, literal_value, null_or_fitted, variable_in, items_in}
 
 -- ---- types: a kind, or a list of a kind, each with or without `!`
-
-pub record VarType : Type 0 where
-  pub kind : Kind
-  pub listed : Bool
-  -- whether null is refused as the value, and as an item of a list
-  pub strict : Bool
-  pub strict_item : Bool
 
 abbrev pub kind_named : Text → Option Kind
 kind_named name =
@@ -128,14 +123,8 @@ abbrev pub counted : Option Data → Option GValue → Input
 counted (Some d) default = json_input d
 counted None default = default_input default
 
--- a variable with its type and its value
-pub record Variable : Type 0 where
-  pub name : Text
-  pub type : VarType
-  pub value : Slot
-
 abbrev pub with_value : Text → VarType → Result Slot FaultKind → Result Variable FaultKind
-with_value name t (Ok s) = Ok (record { name = name; type = t; value = s })
+with_value name t (Ok s) = Ok (record { name = name; type_ = t; value = s })
 with_value name t (Err e) = Err e
 
 abbrev pub typed_variable : Text → Input → Option VarType → Result Variable FaultKind

@@ -12,7 +12,7 @@ use Rattle.request_model.specs.Strings.{Text}
 use Rattle.query_model.specs.declared.fault.FaultKind.TheVariants as fault
 use Rattle.query_model.specs.declared.fault.QueryFault.{QueryFault}
 use Rattle.query_model.specs.Names.{Root, RowsOf, RowOf, StreamOf, NoRoot, Meant, Typename, AColumn, ALink, Unseen, meant, root_type, type_name}
-use Rattle.query_model.specs.Variables.{Variable}
+use Rattle.query_model.specs.declared.variable.Variable.{Variable}
 use Rattle.query_model.specs.Queries.{root_of}
 use Rattle.query_model.specs.Refusals.{refused, refused_if, or_then, first_of}
 use Rattle.query_model.specs.ArgumentFaults.{Known, no_arguments, list_arguments, stream_arguments, key_names, key_arguments, link_arguments, arguments_fault, missing_fault}

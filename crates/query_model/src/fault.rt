@@ -1,4 +1,4 @@
-use scalar_val::Str;
+use scalar_val::{NoMemory, Str};
 
 /// Why a request is refused. Where several causes hold, the first one of this list counts, but that those from
 /// `NoField` to `BadCursor`, and with them `MissingVariable` and `WrongType`, also come in the order of their places.
@@ -51,4 +51,24 @@ pub struct QueryFault {
     pub kind: FaultKind,
     pub at: usize,
     pub name: Str,
+}
+
+/// Why a request isn't admitted.
+#[derive(Debug, Drop)]
+pub enum AdmitFault {
+    /// The first fault that holds of the request.
+    Refused(QueryFault),
+    /// Memory was refused.
+    NoMemory,
+}
+
+impl From<NoMemory> for AdmitFault {
+    ghost use Rattle.std.specs.Prelude.{◌≡◌};
+    ghost use Rattle.query_model.specs.declared.fault.AdmitFault.TheVariants.{NoMemory};
+
+    ghost from_gives = { λ _ e. e ≡ NoMemory };
+
+    fn from(_error: NoMemory) -> AdmitFault {
+        AdmitFault::NoMemory
+    }
 }

@@ -4,6 +4,10 @@
 
 mod fault;
 mod kind;
+mod session;
+mod variable;
 
-pub use fault::{FaultKind, QueryFault};
+pub use fault::{AdmitFault, FaultKind, QueryFault};
 pub use kind::SubKind;
+pub use session::{SessionSlot, SessionSlotList, SessionValue, SessionValueList};
+pub use variable::{VarType, Variable, VariableList};

@@ -25,9 +25,11 @@ use Rattle.request_model.specs.SelectionLaws.{bare_field, essence}
 use Rattle.scalar_val.specs.Joined.{named_text}
 use Rattle.query_model.specs.declared.kind.SubKind.TheVariants as sub
 use Rattle.query_model.specs.Names.{Root, RowsOf, RowOf, StreamOf, NoRoot, Meant, Typename, AColumn, ALink, Unseen, meant, key_columns, column_name, kind_of, argument, null_or_fitted, literal_by, variable_by}
-use Rattle.query_model.specs.Variables.{Variable, value_by, number_read}
+use Rattle.query_model.specs.declared.variable.Variable.{Variable}
+use Rattle.query_model.specs.Variables.{value_by, number_read}
 use Rattle.query_model.specs.Conditions.{where_filter, orders_in}
-use Rattle.query_model.specs.Queries.{Query, SessionValue, root_of}
+use Rattle.query_model.specs.declared.session.SessionValue.{SessionValue}
+use Rattle.query_model.specs.Queries.{Query, root_of}
 use Rattle.plan_model.specs.Taken.{All, First, Next, Wanted, joins, is_beyond}
 use Rattle.plan_model.specs.Outcomes.{wanted_text, quoted_text, Pair, Outcome, result_of}
 use Rattle.query_model.specs.Results.{passes, view, values, is_permitted, column_equals, has_key_given, rows_wanted, row_wanted, stream_wanted, link_wanted, member_text, pair_step, pair_of, root_wanted, result_by, root_result, result}

@@ -47,7 +47,9 @@ use Rattle.query_model.specs.declared.fault.QueryFault.{QueryFault}
 use Rattle.query_model.specs.Names.{Root, RowsOf, RowOf, StreamOf, NoRoot, Meant, Typename, AColumn, ALink, Unseen, meant, argument, key_columns, initial_column, descends, name_in, type_name, pair_value}
 use Rattle.query_model.specs.Conditions.{where_filter, orders_in}
 use Rattle.scalar_val.specs.Values.{kind_rank}
-use Rattle.query_model.specs.Queries.{Query, SessionSlot, SessionValue, slot_cmp, value_names, field_names_step, table_slots, tables_by, tables_step, tables_below, root_tables, root_of, selection_slots, text_variables, view_of, binding_of}
+use Rattle.query_model.specs.declared.session.SessionSlot.{SessionSlot}
+use Rattle.query_model.specs.declared.session.SessionValue.{SessionValue}
+use Rattle.query_model.specs.Queries.{Query, slot_cmp, value_names, field_names_step, table_slots, tables_by, tables_step, tables_below, root_tables, root_of, selection_slots, text_variables, view_of, binding_of}
 use Rattle.query_model.specs.Refusals.{refusal, first_of}
 use Rattle.query_model.specs.ArgumentFaults.{arguments_fault, no_arguments, list_arguments, link_arguments, key_names, stream_arguments}
 use Rattle.query_model.specs.ArgumentFaults.{key_arguments}

@@ -29,7 +29,9 @@ use Rattle.query_model.specs.Names.{key_columns, column_name, kind_of, pair_valu
 use Rattle.plan_model.specs.Values.{number_in}
 use Rattle.query_model.specs.Variables.{number_read}
 use Rattle.query_model.specs.Conditions.{where_filter, orders_in}
-use Rattle.query_model.specs.Queries.{Query, SessionSlot, SessionValue, value_names, view_of}
+use Rattle.query_model.specs.declared.session.SessionSlot.{SessionSlot}
+use Rattle.query_model.specs.declared.session.SessionValue.{SessionValue}
+use Rattle.query_model.specs.Queries.{Query, value_names, view_of}
 use Rattle.query_model.specs.ArgumentFaults.{Known, arguments_fault}
 use Rattle.plan_model.specs.Taken.{Extent, All, First, Next, Wanted, is_beyond}
 use Rattle.query_model.specs.Results.{is_permitted, is_asked, column_equals, list_extent, row_wanted, stream_wanted}

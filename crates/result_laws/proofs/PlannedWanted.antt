@@ -22,7 +22,9 @@ use Rattle.query_model.specs.Names.{variable_in, variable_by, literal_by, null_o
 use Rattle.plan_model.specs.Values.{number_in}
 use Rattle.query_model.specs.Variables.{value_by, value_read, number_read}
 use Rattle.query_model.specs.Conditions.{where_filter}
-use Rattle.query_model.specs.Queries.{Query, SessionSlot, SessionValue, value_names, slots_by, table_slots, view_of}
+use Rattle.query_model.specs.declared.session.SessionSlot.{SessionSlot}
+use Rattle.query_model.specs.declared.session.SessionValue.{SessionValue}
+use Rattle.query_model.specs.Queries.{Query, value_names, slots_by, table_slots, view_of}
 use Rattle.query_model.specs.ValueFaults.{null_by, is_null_literal}
 use Rattle.query_model.specs.Results.{passes, values, permitted_by, is_permitted}
 use Rattle.plan_model.specs.PlanFits.{width}

@@ -20,7 +20,9 @@ use Rattle.plan_model.specs.Values.{operand_value, item_values}
 use Rattle.request_model.specs.Strings.{Text}
 use Rattle.request_model.proofs.ReadArguments.{firsts}
 use Rattle.query_model.specs.Names.{kind_of}
-use Rattle.query_model.specs.Queries.{Query, SessionSlot, SessionValue, slot_cmp, session_name, slots_of, filter_slots_step, filter_slots, view_of}
+use Rattle.query_model.specs.declared.session.SessionSlot.{SessionSlot}
+use Rattle.query_model.specs.declared.session.SessionValue.{SessionValue}
+use Rattle.query_model.specs.Queries.{Query, slot_cmp, session_name, slots_of, filter_slots_step, filter_slots, view_of}
 use Rattle.query_model.specs.Results.{nothing_bound, items_changed, changed_step, session_value, closing}
 use Rattle.query_model.specs.Plans.{slotting}
 use Rattle.query_model.proofs.Positions.{position_here, position_past, some_is, not_some, has_place}

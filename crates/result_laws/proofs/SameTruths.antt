@@ -31,9 +31,11 @@ use Rattle.request_model.specs.Strings.{Text}
 use Rattle.request_model.specs.Selection.{concatenated}
 use Rattle.request_model.proofs.ReadArguments.{firsts}
 use Rattle.query_model.specs.Names.{kind_of, pair_name, pair_value, variable_in, pairs_in, items_in}
-use Rattle.query_model.specs.Variables.{Variable, value_read, values_by, values_read}
+use Rattle.query_model.specs.declared.variable.Variable.{Variable}
+use Rattle.query_model.specs.Variables.{value_read, values_by, values_read}
 use Rattle.query_model.specs.Conditions.{Reader, Conditions, compares, operator_filter, column_filter, conditions_step, conditions_in, condition_at, where_filter}
-use Rattle.query_model.specs.Queries.{SessionSlot, value_names}
+use Rattle.query_model.specs.declared.session.SessionSlot.{SessionSlot}
+use Rattle.query_model.specs.Queries.{value_names}
 use Rattle.query_model.specs.Results.{nothing_bound}
 use Rattle.query_model.specs.Plans.{operands, operand_of, items_or}
 use Rattle.query_model.proofs.QueryRules.{conditions-is, key-is}

@@ -30,8 +30,11 @@ use Rattle.request_model.proofs.ReadFields.{canonical_tells}
 use Rattle.request_model.proofs.ReadNames.{tails}
 use Rattle.query_model.specs.Names.{Root, RowsOf, RowOf, StreamOf, NoRoot, Meant, Typename, AColumn, ALink, Unseen, meant, key_columns, column_name, kind_of, argument, initial_column, descends}
 use Rattle.query_model.specs.Conditions.{orders_in}
-use Rattle.query_model.specs.Variables.{Variable, variable_slot, number_read}
-use Rattle.query_model.specs.Queries.{Query, SessionSlot, SessionValue, view_of, root_of, SameCohort}
+use Rattle.query_model.specs.declared.variable.Variable.{Variable}
+use Rattle.query_model.specs.Variables.{variable_slot, number_read}
+use Rattle.query_model.specs.declared.session.SessionSlot.{SessionSlot}
+use Rattle.query_model.specs.declared.session.SessionValue.{SessionValue}
+use Rattle.query_model.specs.Queries.{Query, view_of, root_of, SameCohort}
 use Rattle.query_model.specs.Admission.{Admitted}
 use Rattle.plan_model.specs.Taken.{Extent, All, First, Next, joins, is_beyond, Wanted}
 use Rattle.plan_model.specs.Outcomes.{wanted_text, quoted_text, Pair, result_of}
