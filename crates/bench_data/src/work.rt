@@ -1,5 +1,6 @@
 //! A table of users and transactions that fill and change it.
-ghost use Rattle.std.specs.Prelude.{◌≡◌, IfOk};
+ghost use Rattle.std.specs.Prelude.{◌≡◌, ◌++◌, [], ◌∷◌, length, IsTrue, IfOk, OnOk};
+ghost use Rattle.row_store.specs.Held.{is_numbered};
 
 use data_model::{Catalog, Column, ColumnList, TableDef};
 use row_store::Snapshot;
@@ -29,7 +30,9 @@ impl From<AllocError> for Fault {
     }
 }
 
-fn push<T: Drop>(list: &mut List<T>, item: T) -> Result<(), NoMemory> {
+fn push<T: Drop>(list: &mut List<T>, item: T) -> Result<(), NoMemory>
+    ensures { OnOk result (list.new ≡ list.old ++ item ∷ []) }
+{
     match list.push(item) {
         Ok(()) => Ok(()),
         Err(_back) => Err(NoMemory),
@@ -51,11 +54,20 @@ pub fn name_column(alloc: Global) -> Result<ColumnList, NoMemory> {
     Ok(list)
 }
 
-/// Users have an id, which is the key, and a name or none.
-pub fn users(alloc: Global, unique: ColumnList) -> Result<Catalog, NoMemory> {
+fn columns(alloc: Global) -> Result<List<Column>, NoMemory>
+    ensures { IfOk result (λ columns. length columns ≡ 2) }
+{
     let mut columns = List::new(alloc);
     push(&mut columns, column(alloc, "id", Kind::Int, false)?)?;
     push(&mut columns, column(alloc, "name", Kind::Text, true)?)?;
+    Ok(columns)
+}
+
+/// Users have an id, which is the key, and a name or none.
+pub fn users(alloc: Global, unique: ColumnList) -> Result<Catalog, NoMemory>
+    ensures { IfOk result (λ catalog. IsTrue (is_numbered catalog)) }
+{
+    let columns = columns(alloc)?;
     let mut key = List::new(alloc);
     push(&mut key, 0)?;
     let table = TableDef {

@@ -10,3 +10,4 @@ pub mod Takes
 pub mod Commits
 pub mod Admits
 pub mod Published
+pub mod Numbered

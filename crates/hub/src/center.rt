@@ -58,6 +58,7 @@ impl Model for Hub {
 
 impl Hub {
     /// A hub to which nothing has happened.
+    #[tactic(auto, using(crate::proofs::Numbered::catalog_numbered))]
     pub fn new(alloc: Global, meta: Meta) -> Result<Hub, NoMemory>
         ensures meta { IfOk result (λ hub. hub.meta ≡ meta) }
         ensures stands { IfOk result (λ hub. StandsFor hub []) }

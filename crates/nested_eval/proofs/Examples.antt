@@ -1,5 +1,5 @@
 -- The selections of the tests fit their table.
-use Rattle.std.proofs.Common.{◌≡◌, ◌∙◌, ◌<◌, ℕ, ℤ, Bool, true, false, ◌&&◌, IsTrue, List, [], ◌∷◌, map, length, nat_lt}
+use Rattle.std.proofs.Common.{◌≡◌, ◌∙◌, ◌<◌, ◌^◌, ℕ, ℤ, Bool, true, false, ◌&&◌, IsTrue, List, [], ◌∷◌, map, length, nat_lt}
 use Rattle.std.proofs.Common.{nat_le, Option, Some, None, refl, sym, ap, subst, arith}
 use Rattle.std.specs.List.{AllByRecursion, list_all}
 use Rattle.std.proofs.lemmas.Bool.Decides.{nat_tests}
@@ -26,7 +26,7 @@ use Rattle.plan_model.specs.declared.plan.Plan.{Plan}
 use Rattle.plan_model.specs.declared.plan.Select.{Select}
 use Rattle.plan_model.specs.declared.plan.Shape.TheVariants as shape
 use Rattle.scalar_val.specs.Joined.{Text}
-use Rattle.row_store.specs.Held.{Held, def_at, table_at}
+use Rattle.row_store.specs.Held.{Held, def_at, table_at, has_numbered_columns, is_numbered}
 use Rattle.plan_model.specs.PlanFits.{has_column, columns_fit, columns_fit_step, FitsAt, fits_field_step}
 use Rattle.plan_model.specs.PlanFits.{fits_select_step, select_fits, shape_fits, PlanFits}
 use Rattle.plan_model.specs.BindingFits.{values_fit, values_fit_step, count_fits, batch_fits, bound_field_step}
@@ -36,6 +36,9 @@ use Rattle.plan_model.proofs.Fitting.{same_length}
 use Rattle.plan_model.proofs.Readiness.{and_in}
 
 -- ---- rows
+
+pub items_numbered : (catalog : Catalog) → catalog.tables ≡ items → IsTrue (is_numbered catalog)
+items_numbered catalog same = subst (λ (ts : List TableDef). IsTrue (nat_lt (length ts) (2 ^ 32) && list_all has_numbered_columns ts)) (sym same) refl
 
 pub one_table : (held : Held) → held.catalog.tables ≡ items → Fits held.catalog held.tables → 0 < length held.tables
 one_table held same fits =

@@ -87,6 +87,7 @@ fn insert<L: Ledger>(
 }
 
 /// Five items: 1 has the parts 3 and 4, and 3 the part 2; 5 stands alone.
+#[tactic(auto, using(crate::proofs::Examples::items_numbered))]
 fn five_items<L: Ledger>(alloc: Global, steps: &mut Steps<L>) -> Result<Snapshot, NoMemory>
     ensures { IfOk result (λ snapshot. snapshot.catalog.tables ≡ items) }
 {

@@ -1,14 +1,25 @@
 -- What the table of the tests takes.
-use Rattle.std.proofs.Common.{◌≡◌, ℤ, ◌<◌, ◌&&◌, Bool, true, false, IsTrue, List, [], ◌∷◌, length, refl, sym, subst, arith}
+use Rattle.std.proofs.Common.{◌≡◌, ℤ, ◌<◌, ◌&&◌, ◌^◌, Bool, true, false, IsTrue, List, [], ◌∷◌, length, refl, sym, subst, arith}
 use Rattle.std.specs.List.{list_all}
+use Rattle.std.specs.Prelude.{nat_lt}
 use Rattle.scalar_val.specs.declared.val.Val.{Val}
 use Rattle.scalar_val.specs.declared.val.Val.TheVariants as val
+use Rattle.data_model.specs.declared.catalog.Catalog.{Catalog}
 use Rattle.data_model.specs.declared.catalog.TableDef.{TableDef}
 use Rattle.data_model.specs.declared.transaction.SetCell.{SetCell}
 use Rattle.data_model.specs.Rows.{Fits, FitAll, may_stand, row_fits, stands_in}
 use Rattle.data_model.proofs.Fitting.{as_many}
 use Rattle.row_store.specs.Example.{name_column, badge_column, users, members}
-use Rattle.row_store.specs.Held.{Held, def_at, table_at}
+use Rattle.row_store.specs.Held.{Held, def_at, table_at, has_numbered_columns, is_numbered}
+
+numbered_by : (catalog : Catalog) (tables : List TableDef) → catalog.tables ≡ tables → IsTrue (nat_lt (length tables) (2 ^ 32) && list_all has_numbered_columns tables) → IsTrue (is_numbered catalog)
+numbered_by catalog tables same h = subst (λ ts. IsTrue (nat_lt (length ts) (2 ^ 32) && list_all has_numbered_columns ts)) (sym same) h
+
+pub users_numbered : (catalog : Catalog) → catalog.tables ≡ users → IsTrue (is_numbered catalog)
+users_numbered catalog same = numbered_by catalog users same refl
+
+pub members_numbered : (catalog : Catalog) → catalog.tables ≡ members → IsTrue (is_numbered catalog)
+members_numbered catalog same = numbered_by catalog members same refl
 
 pub one_table : (held : Held) → held.catalog.tables ≡ users → Fits held.catalog held.tables → 0 < length held.tables
 one_table held same fits =

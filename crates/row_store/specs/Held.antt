@@ -1,5 +1,6 @@
 -- What a snapshot holds: a catalog, and a database that fits it. This project's own.
-use Rattle.std.specs.Prelude.{ℕ, List, [], slice_get, slice_set, unwrap_or}
+use Rattle.std.specs.Prelude.{ℕ, ◌^◌, Bool, ◌&&◌, nat_lt, List, [], length, slice_get, slice_set, unwrap_or}
+use Rattle.std.specs.List.{list_all}
 use Rattle.data_model.specs.declared.catalog.TableDef.{TableDef}
 use Rattle.data_model.specs.declared.catalog.Catalog.{Catalog}
 use Rattle.data_model.specs.Rows.{Rows, Database}
@@ -7,6 +8,14 @@ use Rattle.data_model.specs.Rows.{Rows, Database}
 pub record Held : Type 0 where
   pub catalog : Catalog
   pub tables : Database
+
+-- the place of each column is a number of 32 bits
+abbrev pub has_numbered_columns : TableDef → Bool
+has_numbered_columns table = nat_lt (length table.columns) (2 ^ 32)
+
+-- the places of the tables and of their columns are numbers of 32 bits
+abbrev pub is_numbered : Catalog → Bool
+is_numbered catalog = nat_lt (length catalog.tables) (2 ^ 32) && list_all has_numbered_columns catalog.tables
 
 abbrev pub no_table : TableDef
 no_table = record { name = []; columns = []; key = []; unique = []; max_rows = 0 }

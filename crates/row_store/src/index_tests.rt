@@ -226,6 +226,7 @@ fn letter(stored: Stored) -> u8 {
 
 /// A letter for each answer and the rows at the end. Where each table is shared before each change the answers are the
 /// scan's; else every fortieth change alone finds its table shared, and the index is made between.
+#[tactic(auto, using(crate::proofs::Examples::members_numbered))]
 fn run<L: Ledger>(alloc: Global, shared: bool, steps: &mut Steps<L>) -> Result<Vec<u8>, NoMemory> {
     let mut out = Vec::new(alloc);
     let catalog = members(alloc)?;

@@ -4,7 +4,7 @@ ghost use Rattle.std.specs.Arc.{arc_value};
 ghost use Rattle.std.specs.List.{list_all};
 ghost use Rattle.data_model.specs.declared.catalog.TableDef.{TableDef};
 ghost use Rattle.data_model.specs.Rows.{Fits, Rows, no_rows, row_fits, may_stand, inserted, updated, deleted, first_reason, insert_tests, update_tests, delete_tests};
-ghost use Rattle.row_store.specs.Held.{table_at, rows_at, with_rows};
+ghost use Rattle.row_store.specs.Held.{is_numbered, table_at, rows_at, with_rows};
 ghost use Rattle.row_store.specs.Stored.{reason_of, after};
 
 use crate::changes::{delete_at, insert_at, update_at};
@@ -23,7 +23,7 @@ use std::sync::ledger::Ledger;
 /// The values of a row, in the order of its table's columns.
 pub type ValList = List<Val>;
 
-/// A database that fits the catalog it was made over. Contracts see the catalog and the rows of each table, in the
+/// A database that fits the catalog it was made over, whose places are numbers of 32 bits. Contracts see the catalog and the rows of each table, in the
 /// catalog's order. Shares have their tables in common until one of them changes.
 #[derive(Drop)]
 pub struct Snapshot {
@@ -94,8 +94,9 @@ fn empty_tables(alloc: Global, tables: &[TableDef]) -> Result<Vec<Arc<Table>>, N
 }
 
 impl Snapshot {
-    /// Empty tables over a copy of the catalog.
+    /// Empty tables over a copy of the catalog, whose places of tables and of columns are numbers of 32 bits.
     pub fn new(alloc: Global, catalog: &Catalog) -> Result<Snapshot, NoMemory>
+        requires { IsTrue (is_numbered catalog.now) }
         ensures catalog { IfOk result (λ s. s.catalog ≡ catalog.now) }
         ensures tables { IfOk result (λ s. s.tables ≡ no_rows catalog.now) }
     {
@@ -116,6 +117,13 @@ impl Snapshot {
     /// Tells a proof that the database fits its catalog; it does nothing.
     pub fn fits(&self)
         ensures { Fits self.now.catalog self.now.tables }
+    {
+        let _ = &self.tables;
+    }
+
+    /// Tells a proof that the catalog's places are numbers of 32 bits; it does nothing.
+    pub fn numbered(&self)
+        ensures { IsTrue (is_numbered self.now.catalog) }
     {
         let _ = &self.tables;
     }

@@ -160,6 +160,7 @@ pub(crate) fn append_rows<L: Ledger>(
     Ok(())
 }
 
+#[tactic(auto, using(crate::proofs::Examples::users_numbered))]
 fn answers<L: Ledger>(alloc: Global, steps: &mut Steps<L>) -> Result<[Stored; 10], NoMemory> {
     let catalog = users(alloc)?;
     let mut snapshot = Snapshot::new(alloc, &catalog)?;
@@ -178,6 +179,7 @@ fn answers<L: Ledger>(alloc: Global, steps: &mut Steps<L>) -> Result<[Stored; 10
 }
 
 /// A share's rows before and after the other one changes, and the other's.
+#[tactic(auto, using(crate::proofs::Examples::users_numbered))]
 fn rows_of_shares<L: Ledger>(alloc: Global, steps: &mut Steps<L>) -> Result<Vec<u8>, NoMemory> {
     let mut out = Vec::new(alloc);
     let catalog = users(alloc)?;

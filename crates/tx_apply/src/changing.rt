@@ -6,7 +6,7 @@ ghost use Rattle.tx_apply.specs.Cost.{change_cost};
 
 use crate::naming::{table_of, table_place};
 use crate::reasons::{delete_naming, insert_naming, reason_of, update_naming};
-use crate::values::{key_given, number, row_given, set_given};
+use crate::values::{key_given, row_given, set_given};
 use data_model::{Catalog, Reason, TableDef, TxCell, TxChange};
 use row_store::Snapshot;
 use scalar_val::{NoMemory, Steps};
@@ -37,7 +37,7 @@ fn insert_change<L: Ledger>(
     Ok(reason_of(snapshot.insert(alloc, at, cells, steps)?))
 }
 
-#[tactic(auto, using(data_model::proofs::Gives::set_given_stands, data_model::proofs::Gives::update_answers))]
+#[tactic(auto, using(data_model::proofs::Gives::set_given_stands, data_model::proofs::Gives::update_answers, crate::proofs::Places::few_columns))]
 fn update_change<L: Ledger>(
     alloc: Global,
     table: &TableDef,
@@ -59,6 +59,7 @@ fn update_change<L: Ledger>(
         return Ok(named);
     }
     let values = key_given(alloc, table, key)?;
+    snapshot.numbered();
     let cells = set_given(alloc, table, set)?;
     Ok(reason_of(snapshot.update(alloc, at, values.as_slice(), cells.as_slice(), steps)?))
 }
@@ -136,11 +137,11 @@ pub(crate) fn change_one<L: Ledger>(
     ensures steps { steps.new ≤ steps.old + change_cost catalog.now snapshot.old.tables change.now }
 {
     let place = table_place(catalog.tables.as_slice(), table_of(change));
-    let at = number(place)?;
     match catalog.tables.get(place) {
         Some(table) => {
             snapshot.fits();
-            change_table(alloc, table, at, snapshot, change, steps)
+            snapshot.numbered();
+            change_table(alloc, table, place as u32, snapshot, change, steps)
         }
         None => Ok(Some(Reason::NoTable)),
     }

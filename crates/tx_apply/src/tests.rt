@@ -1,4 +1,5 @@
-ghost use Rattle.std.specs.Prelude.{◌≡◌, ◌<◌, length, IfOk};
+ghost use Rattle.std.specs.Prelude.{◌≡◌, ◌<◌, ◌++◌, [], ◌∷◌, length, IsTrue, IfOk, OnOk};
+ghost use Rattle.row_store.specs.Held.{is_numbered};
 
 use crate::{ApplyFault, Reason, Tx, TxCells, TxChange, TxTextFault, apply, read_tx};
 use data_model::{Catalog, Column, TableDef};
@@ -23,7 +24,9 @@ impl From<NoMemory> for Refusal {
     }
 }
 
-fn push<T: Drop>(list: &mut List<T>, item: T) -> Result<(), NoMemory> {
+fn push<T: Drop>(list: &mut List<T>, item: T) -> Result<(), NoMemory>
+    ensures { OnOk result (list.new ≡ list.old ++ item ∷ []) }
+{
     match list.push(item) {
         Ok(()) => Ok(()),
         Err(_back) => Err(NoMemory),
@@ -38,11 +41,20 @@ fn column(alloc: Global, name: &str, kind: Kind, nullable: bool) -> Result<Colum
     })
 }
 
-/// Users have an id, which is the key, and a name or none.
-fn users(alloc: Global, unique: List<u32>, max_rows: u32) -> Result<Catalog, NoMemory> {
+fn columns(alloc: Global) -> Result<List<Column>, NoMemory>
+    ensures { IfOk result (λ columns. length columns ≡ 2) }
+{
     let mut columns = List::new(alloc);
     push(&mut columns, column(alloc, "id", Kind::Int, false)?)?;
     push(&mut columns, column(alloc, "name", Kind::Text, true)?)?;
+    Ok(columns)
+}
+
+/// Users have an id, which is the key, and a name or none.
+fn users(alloc: Global, unique: List<u32>, max_rows: u32) -> Result<Catalog, NoMemory>
+    ensures { IfOk result (λ catalog. IsTrue (is_numbered catalog)) }
+{
+    let columns = columns(alloc)?;
     let mut key = List::new(alloc);
     push(&mut key, 0)?;
     let mut tables = List::new(alloc);
@@ -61,7 +73,9 @@ fn users(alloc: Global, unique: List<u32>, max_rows: u32) -> Result<Catalog, NoM
 }
 
 /// Names are unique, and there may be one user.
-fn one_user(alloc: Global) -> Result<Catalog, NoMemory> {
+fn one_user(alloc: Global) -> Result<Catalog, NoMemory>
+    ensures { IfOk result (λ catalog. IsTrue (is_numbered catalog)) }
+{
     let mut unique = List::new(alloc);
     push(&mut unique, 1)?;
     users(alloc, unique, 1)

@@ -1,4 +1,4 @@
-ghost use Rattle.std.specs.Prelude.{◌≡◌, ◌++◌, not, ◌&&◌, map, unwrap_or, option_map, is_some, is_none, slice_get, IfOk, OnOk};
+ghost use Rattle.std.specs.Prelude.{◌≡◌, ◌++◌, ◌<◌, ◌^◌, length, not, ◌&&◌, map, unwrap_or, option_map, is_some, is_none, slice_get, IfOk, OnOk};
 ghost use Rattle.std.specs.List.{find, list_any};
 ghost use Rattle.scalar_val.specs.Spellings.{fitted};
 ghost use Rattle.data_model.specs.Transactions.{is_column, given, row_given, key_given, set_at, set_given, is_wrong, is_null_wrongly, lacks, value_in};
@@ -80,31 +80,24 @@ pub(crate) fn key_given(
     Ok(key)
 }
 
-/// A place as a number of 32 bits. A list that is longer than these count is refused as memory is.
-pub(crate) fn number(at: usize) -> Result<u32, NoMemory>
-    ensures { IfOk result (λ place. place ≡ at) }
+fn set_cell(at: usize, value: Val) -> SetCell
+    requires { at < 2 ^ 32 }
+    ensures column { result.column ≡ at }
+    ensures value { result.value ≡ value }
 {
-    if at > u32::MAX as usize {
-        return Err(NoMemory);
-    }
-    Ok(at as u32)
-}
-
-fn set_cell(at: usize, value: Val) -> Result<SetCell, NoMemory>
-    ensures { IfOk result (λ cell. (cell.column ≡ at) × (cell.value ≡ value)) }
-{
-    let column = number(at)?;
-    Ok(SetCell { column, value })
+    let column = at as u32;
+    SetCell { column, value }
 }
 
 /// A new value by its column's place; a cell that names no column keeps its scalar, past the last place.
 fn set_at(alloc: Global, columns: &ColumnDefList, cell: &TxCell) -> Result<SetCell, NoMemory>
+    requires { length columns.now < 2 ^ 32 }
     ensures { IfOk result (λ set. set ≡ set_at columns.now cell.now (find (is_column cell.now.column) columns.now)) }
 {
     let at = column_place(columns.as_slice(), cell.column.as_str());
     match columns.get(at) {
-        Some(named) => set_cell(at, value_in(alloc, named, &cell.value)?),
-        None => set_cell(columns.len(), copy_val(alloc, &cell.value)?),
+        Some(named) => Ok(set_cell(at, value_in(alloc, named, &cell.value)?)),
+        None => Ok(set_cell(columns.len(), copy_val(alloc, &cell.value)?)),
     }
 }
 
@@ -114,6 +107,7 @@ pub(crate) fn set_given(
     table: &TableDef,
     cells: &[TxCell],
 ) -> Result<Vec<SetCell>, NoMemory>
+    requires { length table.now.columns < 2 ^ 32 }
     ensures { IfOk result (λ set. set.items ≡ set_given table.now cells.now) }
 {
     let mut set = Vec::with_capacity(alloc, cells.len())?;

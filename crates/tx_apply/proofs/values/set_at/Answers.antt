@@ -1,6 +1,5 @@
 use Rattle.std.proofs.Common.{◌≡◌, ℕ, List, ap, ◌∙◌, length}
 use Rattle.std.specs.List.{position_or_len}
-use Rattle.std.proofs.lemmas.Result.{IfOk-weaker}
 use Rattle.data_model.specs.Transactions.{is_column}
 use Rattle.data_model.proofs.Gives.{cell_is, set_by_name, set_by_none}
 use Rattle.tx_apply.proofs.values.set_at.Goals as goal
@@ -12,9 +11,8 @@ returns-in_ok-value_in-in-Some c =
     let at = c.column_place-at.result in
     let place : at ≡ position_or_len (is_column cell.column) columns =
     c.column_place-at.ensures ∙ ap (λ (name : List ℕ). position_or_len (is_column name) c.as_slice.result.now) c.as_str.ensures ∙ ap (position_or_len (is_column cell.column)) c.as_slice.ensures in
-    IfOk-weaker c.set_cell.result _ _
-    (λ set is. cell_is set at c.in_ok-value_in-in-Some.field-0 is.0 is.1 ∙ set_by_name columns cell at c.in-Some.named.now c.in_ok-value_in-in-Some.field-0 place c.in-Some.ensures.value c.in_ok-value_in-in-Some.ensures)
-    c.set_cell.ensures
+    cell_is c.set_cell.result at c.in_ok-value_in-in-Some.field-0 c.set_cell.ensures.column c.set_cell.ensures.value
+    ∙ set_by_name columns cell at c.in-Some.named.now c.in_ok-value_in-in-Some.field-0 place c.in-Some.ensures.value c.in_ok-value_in-in-Some.ensures
 
 pub returns-in_ok-copy_val-in-None : goal.returns-in_ok-copy_val-in-None
 returns-in_ok-copy_val-in-None c =
@@ -23,6 +21,5 @@ returns-in_ok-copy_val-in-None c =
     let at = c.column_place-at.result in
     let place : at ≡ position_or_len (is_column cell.column) columns =
     c.column_place-at.ensures ∙ ap (λ (name : List ℕ). position_or_len (is_column name) c.as_slice.result.now) c.as_str.ensures ∙ ap (position_or_len (is_column cell.column)) c.as_slice.ensures in
-    IfOk-weaker c.set_cell-in-None.result _ _
-    (λ set is. cell_is set (length columns) c.in_ok-copy_val-in-None.field-0 (is.0 ∙ c.len.ensures) is.1 ∙ set_by_none columns cell at c.in_ok-copy_val-in-None.field-0 place c.in-None.ensures.value c.in_ok-copy_val-in-None.ensures)
-    c.set_cell-in-None.ensures
+    cell_is c.set_cell-in-None.result (length columns) c.in_ok-copy_val-in-None.field-0 (c.set_cell-in-None.ensures.column ∙ c.len.ensures) c.set_cell-in-None.ensures.value
+    ∙ set_by_none columns cell at c.in_ok-copy_val-in-None.field-0 place c.in-None.ensures.value c.in_ok-copy_val-in-None.ensures
