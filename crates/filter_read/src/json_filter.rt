@@ -74,8 +74,8 @@ fn place_in(names: &NameSet, name: &str) -> Option<usize>
     names.place(name)
 }
 
-/// The slot of a session variable, its first place among the names.
-fn slot_in(names: &NameSet, name: &str) -> u32
+/// The slot of a variable: its first place among the names, from 0, and 0 where there is none of that name.
+pub fn slot_in(names: &NameSet, name: &str) -> u32
     requires slots { length names.now ≤ 4294967296 }
     ensures { result ≡ slot_of names.now name.now }
 {
@@ -126,7 +126,8 @@ fn read_items(alloc: Global, kind: Kind, value: &Value) -> Result<Option<Operand
     Ok(Some(items))
 }
 
-fn op_of(name: &str) -> Option<Op>
+/// The comparison of a name, `_eq`, `_neq`, `_gt`, `_gte`, `_lt` or `_lte`.
+pub fn op_of(name: &str) -> Option<Op>
     ensures { result ≡ op_named name.now }
 {
     match name {

@@ -4,5 +4,5 @@
 mod json_filter;
 mod mentions;
 
-pub use json_filter::{number_of_column, read_filter};
+pub use json_filter::{number_of_column, op_of, read_filter, slot_in};
 pub use mentions::push_mentions;

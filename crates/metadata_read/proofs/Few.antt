@@ -1,8 +1,8 @@
 -- A document without a fault has few tables, each of few columns.
-use Rattle.std.proofs.Common.{◌≡◌, ℕ, ◌≤◌, ◌<◌, zero, suc, Bool, true, false, ◌||◌, Option, Some, None, IfSome, Bor}
+use Rattle.std.proofs.Common.{◌≡◌, ℕ, ◌≤◌, ◌<◌, suc, Bool, true, false, Option, Some, None, IfSome, Bor}
 use Rattle.std.proofs.Common.{List, [], ◌∷◌, length, nat_lt, if◌then◌else◌, find, cond, refl, subst, sym, ap}
 use Rattle.std.proofs.Common.{unwrap_or, arith}
-use Rattle.std.specs.List.{All, list_any}
+use Rattle.std.specs.List.{list_any}
 use Rattle.std.specs.Option.{option_copied}
 use Rattle.std.specs.Str.{bytes_eq}
 use Rattle.std.proofs.lemmas.Bool.Decides.{nat_tests}
@@ -12,6 +12,9 @@ use Rattle.role_model.specs.declared.metadata.MetaFault.{MetaFault}
 use Rattle.role_model.specs.declared.metadata.TableEntry.{TableEntry}
 use Rattle.role_model.specs.MetadataFaults.{wrong_version, too_many, fault_of}
 use Rattle.role_model.specs.Texts.{Text}
+use Rattle.role_model.specs.MetadataMeaning.{session_names}
+use Rattle.metadata_bounds.specs.Names.{ShortFilters, most_names}
+use Rattle.metadata_bounds.proofs.FewNames.{names_are_few}
 use Rattle.metadata_read.specs.Few.{IsNarrow, AreNarrow, AreFew}
 
 -- lists of tables
@@ -74,3 +77,9 @@ pub found_narrow : (ts : List TableEntry) (name : Text) (r : Option (Bor TableEn
     → IfSome r (λ t. IsNarrow t.now)
 found_narrow ts name (Some t) h e = found (λ (t : TableEntry). bytes_eq name t.name) ts t.now h (sym e)
 found_narrow ts name None h e = tt
+
+-- the session variables of a role
+
+pub names_few : (ts : List TableEntry) (role : Text) → AreFew ts → ShortFilters ts
+    → length (session_names ts role) ≤ most_names
+names_few ts role few short = names_are_few ts role few.few short

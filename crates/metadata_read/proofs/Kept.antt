@@ -18,7 +18,10 @@ use Rattle.role_model.specs.MetadataMeaning.{permission_for, mentions_by, grant_
 use Rattle.role_model.specs.declared.metadata.Grant.{Grant}
 use Rattle.role_model.specs.declared.metadata.PermissionEntry.{PermissionEntry}
 use Rattle.role_model.specs.declared.metadata.TableEntry.{TableEntry}
+use Rattle.metadata_bounds.specs.Names.{ShortFilters, most_names}
+use Rattle.metadata_bounds.proofs.FewNames.{names_are_few}
 use Rattle.name_set.proofs.NameRules.{same_text, turned}
+use Rattle.metadata_read.specs.Few.{AreFew}
 use Rattle.metadata_read.specs.Held.{HeldPermission, held_at, held_for, held_of, names_held, grant_held, role_held, is_at, ends_at, with_held, is_of, with_one, with_each, with_tables, kept_by}
 
 -- the last of a list
@@ -106,6 +109,10 @@ names_by role n (t ∷ ts) = one (permission_for role t) ∙ ap (λ xs. mentions
 
 pub names_are : (role : Text) (ts : List TableEntry) → names_held (held_of ts role) ≡ session_names ts role
 names_are role ts = ap distinct (names_by role 0 ts)
+
+-- and they are few
+pub kept_names_few : (ts : List TableEntry) (role : Text) (kept : BTreeMap (Bor Text) (List HeldPermission)) → AreFew ts → ShortFilters ts → ((q : Text) → kept_by kept q ≡ held_of ts q) → length (names_held (kept_by kept role)) ≤ most_names
+kept_names_few ts role kept few short is = subst (λ ns. length ns ≤ most_names) (sym (ap names_held (is role) ∙ names_are role ts)) (names_are_few ts role few.few short)
 
 grants_by : (role : Text) (names : List Text) (n : ℕ) (ts : List TableEntry) → filter_map (grant_held names) (filter_map (held_for role) (enumerate_from n ts)) ≡ filter_map (grant_for role names) (enumerate_from n ts)
 grants_by role names n [] = refl

@@ -7,8 +7,9 @@ ghost use Rattle.role_model.specs.MetadataNames.{table_number, columns_of, colum
 ghost use Rattle.role_model.specs.MetadataMeaning.{numbers_of, table_def, link_def, link_defs, grant_of, role_def};
 ghost use Rattle.role_model.specs.MetadataMeaning.{role_names, meaning_of};
 ghost use Rattle.role_model.specs.MetadataFaults.{fault_of};
+ghost use Rattle.metadata_bounds.specs.Names.{ShortFilters, most_names};
 ghost use Rattle.metadata_read.specs.Few.{IsNarrow, AreNarrow, AreFew};
-ghost use Rattle.metadata_read.specs.Held.{grant_held, role_held, kept_by};
+ghost use Rattle.metadata_read.specs.Held.{names_held, grant_held, role_held, kept_by};
 
 use crate::faults::{json_in, table_by, table_place};
 use crate::held::{Held, HeldList, HeldMap, held_by_role, held_in};
@@ -284,14 +285,11 @@ fn grants_of(alloc: Global, own: &[Held<'_>], names: &NameSet) -> Result<GrantLi
 }
 
 fn role_of(alloc: Global, own: &[Held<'_>], role: &str) -> Result<RoleDef, NoMemory>
+    requires few { length (names_held own.now) ≤ most_names }
     ensures { IfOk result (λ r. r ≡ role_held role.now own.now) }
 {
     let name = Str::of(alloc, role)?;
     let session_names = session_names_of(alloc, own)?;
-    // A text of 1,048,576 bytes hasn't room for so many names.
-    if session_names.names().len() > u32::MAX as usize {
-        return Err(NoMemory);
-    }
     let grants = grants_of(alloc, own, &session_names)?;
     Ok(RoleDef {
         name,
@@ -301,6 +299,7 @@ fn role_of(alloc: Global, own: &[Held<'_>], role: &str) -> Result<RoleDef, NoMem
 }
 
 fn role_by(alloc: Global, own: Option<&HeldList<'_>>, role: &str) -> Result<RoleDef, NoMemory>
+    requires few { length (names_held (unwrap_or (option_copied own) [])) ≤ most_names }
     ensures { IfOk result (λ r. r ≡ role_held role.now (unwrap_or (option_copied own.entry) [])) }
 {
     match own {
@@ -315,6 +314,7 @@ fn push_role(
     kept: &HeldMap<'_>,
     role: &str,
 ) -> Result<(), NoMemory>
+    requires few { length (names_held (kept_by kept.now role.now)) ≤ most_names }
     ensures { OnOk result (roles.new ≡ roles.old ++ role_held role.now (kept_by kept.now role.now) ∷ []) }
 {
     let role = role_by(alloc, held_in(kept, role), role)?;
@@ -324,8 +324,10 @@ fn push_role(
     }
 }
 
+#[tactic(auto, using(crate::proofs::Kept::kept_names_few))]
 pub fn roles_of(alloc: Global, tables: &[TableEntry], names: &[Str]) -> Result<RoleList, NoMemory>
     requires few { AreFew tables.now }
+    requires short { ShortFilters tables.now }
     ensures { IfOk result (λ rs. rs ≡ map (role_def tables.now) names.now) }
 {
     let kept = held_by_role(alloc, tables)?;
@@ -343,10 +345,12 @@ pub struct Meaning {
     pub role_names: NameSet,
 }
 
-/// What a document says, where nothing is wrong with it. `NoMemory` where memory is refused.
+/// What a document says, where nothing is wrong with it and no filter is longer than 1,048,576 bytes. `NoMemory` where
+/// memory is refused.
 #[tactic(auto, using(crate::proofs::Few::few_where_faultless))]
 pub fn read_meaning(alloc: Global, document: Document) -> Result<Meaning, NoMemory>
     requires faultless { fault_of document ≡ None }
+    requires short { ShortFilters document.tables }
     ensures value { IfOk result (λ m. m.metadata ≡ meaning_of document) }
     ensures names { IfOk result (λ m. m.role_names ≡ map (λ r. r.name) m.metadata.roles) }
 {

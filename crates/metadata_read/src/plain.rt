@@ -5,6 +5,7 @@ ghost use Rattle.std.specs.List.{fold, filter_map, enumerate_from};
 ghost use Rattle.std.specs.Option.{option_copied};
 ghost use Rattle.role_model.specs.JsonFilters.{with_text};
 ghost use Rattle.role_model.specs.MetadataMeaning.{mentions_by, permission_for, session_names, grant_for, role_def};
+ghost use Rattle.metadata_bounds.specs.Names.{ShortFilters};
 ghost use Rattle.metadata_read.specs.Few.{IsNarrow, AreFew};
 
 use crate::meaning::{grant_by, push_grant};
@@ -87,15 +88,14 @@ fn grants_of(
 }
 
 /// A role, table by table.
+#[tactic(auto, using(crate::proofs::Few::names_few))]
 pub fn plain_role_of(alloc: Global, tables: &[TableEntry], role: &str) -> Result<RoleDef, NoMemory>
     requires few { AreFew tables.now }
+    requires short { ShortFilters tables.now }
     ensures { IfOk result (λ r. r ≡ role_def tables.now role.now) }
 {
     let name = Str::of(alloc, role)?;
     let session_names = session_names_of(alloc, tables, role)?;
-    if session_names.names().len() > u32::MAX as usize {
-        return Err(NoMemory);
-    }
     let grants = grants_of(alloc, tables, role, &session_names)?;
     Ok(RoleDef {
         name,

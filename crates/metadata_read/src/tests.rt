@@ -1,4 +1,5 @@
-ghost use Rattle.std.specs.Prelude.{◌≡◌, false};
+ghost use Rattle.std.specs.Prelude.{◌≡◌, false, IfOk};
+ghost use Rattle.metadata_bounds.specs.Names.{ShortFilters};
 ghost use Rattle.role_model.specs.MetadataFaults.{too_many};
 
 use crate::faults::has_too_many;
@@ -12,8 +13,22 @@ use std::alloc::Global;
 
 const COLUMNS: &str = "key = [\"id\"]\ncolumns = [{ name = \"id\", type = \"int\" }]\n";
 
+/// The document of a text of at most 1,048,576 bytes.
+#[tactic(auto, using(metadata_bounds::proofs::FilterTexts::filters_are_short))]
+fn read(alloc: Global, text: &str) -> Result<Document, NoMemory>
+    ensures { IfOk result (λ d. ShortFilters d.tables) }
+{
+    if text.len() > 1048576 {
+        return Err(NoMemory);
+    }
+    let table = read_toml(alloc, text.as_bytes()).map_err(|_| NoMemory)?;
+    read_document(alloc, &table).map_err(|_| NoMemory)
+}
+
 /// Three tables with these permissions.
-fn document_of(alloc: Global, selects: [&str; 3]) -> Result<Document, NoMemory> {
+fn document_of(alloc: Global, selects: [&str; 3]) -> Result<Document, NoMemory>
+    ensures { IfOk result (λ d. ShortFilters d.tables) }
+{
     let mut text = String::from_str(alloc, "version = 1\n")?;
     for select in selects {
         text.push_str("[[tables]]\nname = \"some\"\n")?;
@@ -22,8 +37,7 @@ fn document_of(alloc: Global, selects: [&str; 3]) -> Result<Document, NoMemory> 
         text.push_str(select)?;
         text.push_str("]\n")?;
     }
-    let table = read_toml(alloc, text.as_bytes()).map_err(|_| NoMemory)?;
-    read_document(alloc, &table).map_err(|_| NoMemory)
+    read(alloc, text.as_str())
 }
 
 /// A role's name, its session variables, and the table and the limit of each of its permissions.
@@ -45,6 +59,7 @@ fn told(alloc: Global, role: &RoleDef) -> Result<String, NoMemory> {
 #[tactic(auto, using(crate::proofs::Few::few))]
 fn told_at_once(alloc: Global, document: &Document) -> Result<String, NoMemory>
     requires few { too_many document.now ≡ false }
+    requires short { ShortFilters document.now.tables }
 {
     let tables = document.tables.as_slice();
     let names = role_names_of(alloc, tables)?;
@@ -60,6 +75,7 @@ fn told_at_once(alloc: Global, document: &Document) -> Result<String, NoMemory>
 #[tactic(auto, using(crate::proofs::Few::few))]
 fn told_plainly(alloc: Global, document: &Document) -> Result<String, NoMemory>
     requires few { too_many document.now ≡ false }
+    requires short { ShortFilters document.now.tables }
 {
     let tables = document.tables.as_slice();
     let names = role_names_of(alloc, tables)?;

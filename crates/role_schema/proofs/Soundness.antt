@@ -24,8 +24,8 @@ use Rattle.role_model.specs.declared.metadata.MetaFault.{MetaFault}
 use Rattle.role_model.specs.declared.metadata.MetaFault.TheVariants.{TooLong}
 use Rattle.role_model.specs.JsonFilters.{column_number, mentions, with_text, filter_of}
 use Rattle.role_model.specs.MetadataForm.{document_of}
-use Rattle.role_model.specs.MetadataNames.{links_of, table_number, columns_of, has_column, kind_in, json_of}
-use Rattle.role_model.specs.MetadataFaults.{wrong_version, too_many, bad_name, duplicate, no_table, lacks_a_column}
+use Rattle.role_model.specs.MetadataNames.{has_twice, root_names, links_of, table_number, columns_of, has_column, kind_in, json_of}
+use Rattle.role_model.specs.MetadataFaults.{wrong_version, too_many, bad_name, repeats_a_name, duplicate, no_table, lacks_a_column}
 use Rattle.role_model.specs.MetadataFaults.{link_lacks_a_column, table_lacks_a_column, no_column, links_other_kinds}
 use Rattle.role_model.specs.MetadataFaults.{has_a_bad_kind, bad_kind, fault_of}
 use Rattle.role_model.specs.MetadataMeaning.{numbers_of, table_def, link_def, link_defs, permission_for, mentions_by}
@@ -33,8 +33,11 @@ use Rattle.role_model.specs.MetadataMeaning.{session_names, grant_of, grant_for,
 use Rattle.role_model.specs.MetadataMeaning.{judged_by, formed_by, parsed_by, toml_of, metadata_of, IsMetadata}
 use Rattle.role_model.specs.Texts.{Text}
 use Rattle.role_schema.proofs.Forms.{LinkForm, TableForm, DocumentForm, document_form, same, steps_of}
+use Rattle.role_schema.proofs.LinkNames.{HaveOwnNames, each_own_names}
 use Rattle.role_schema.proofs.Slots.{Known, First, first, first_placed, read_fits}
 use Rattle.role_schema.proofs.Uses.{found_holds}
+use Rattle.metadata_bounds.specs.Names.{HasFewNames}
+use Rattle.metadata_bounds.proofs.FewNames.{roles_have_few_names}
 use Rattle.role_schema.specs.Sound.{Sound, SoundTable, SoundLink, SoundLinks, SoundGrant, SoundRole, columns_at}
 use Rattle.role_schema.specs.Sound.{is_column, is_never_null, kind_at}
 
@@ -330,6 +333,7 @@ not_this false x o h = (refl, h)
 
 record Faultless (d : Document) : Type 0 where
   few : too_many d ≡ false
+  once : duplicate d ≡ false
   tables : no_table d ≡ false
   columns : no_column d ≡ false
   kinds : bad_kind d ≡ false
@@ -343,10 +347,10 @@ faultless d h =
     let f = not_this (no_table d) _ _ e.1 in
     let g = not_this (no_column d) _ _ f.1 in
     let i = not_this (bad_kind d) _ _ g.1 in
-    record { few = b.0; tables = f.0; columns = g.0; kinds = i.0 }
+    record { few = b.0; once = e.0; tables = f.0; columns = g.0; kinds = i.0 }
 
-meaning_sound : (d : Document) → DocumentForm d → fault_of d ≡ None → Sound (meaning_of d)
-meaning_sound d form h =
+meaning_sound : (d : Document) → AllByRecursion HasFewNames (meaning_of d).roles → DocumentForm d → fault_of d ≡ None → Sound (meaning_of d)
+meaning_sound d few form h =
     let f = faultless d h in
     let size = or_false (nat_lt 256 (length d.tables)) (list_any (λ (t : TableEntry). nat_lt 64 (length t.columns)) d.tables) f.few in
     let r = rights d.tables d.tables form.tables size.1 f.tables f.columns f.kinds in
@@ -355,6 +359,7 @@ meaning_sound d form h =
       tables = mapped SoundTable table_def d.tables (each (Right d.tables) (λ t. SoundTable (table_def t)) (table_sound d.tables) d.tables r);
       links = all_links d.tables d.tables r;
       roles = roles_sound d.tables (role_names d.tables) r;
+      few_names = few;
       batch_size = form.batch_size;
       refetch_ms = form.refetch_ms;
     }
@@ -366,21 +371,42 @@ said_or m (Err fault) = m
 same_metadata : (m n : Metadata) → ◌≡◌ {A = Result Metadata MetaFault} (Ok m) (Ok n) → m ≡ n
 same_metadata m n e = ap (said_or m) e
 
-judged : (d : Document) (m : Metadata) → DocumentForm d → (o : Option MetaFault) → fault_of d ≡ o → judged_by d o ≡ Ok m → Sound m
-judged d m form (Some fault) h e = cc
-judged d m form None h e = subst Sound (same_metadata (meaning_of d) m e) (meaning_sound d form h)
+abbrev FewIn : Metadata → Type 0
+FewIn m = AllByRecursion HasFewNames m.roles
 
-formed : (ms : Members) (m : Metadata) (o : Option Document) → document_of ms ≡ o → formed_by o ≡ Ok m → Sound m
-formed ms m (Some d) h e = judged d m (document_form ms d h) (fault_of d) refl e
-formed ms m None h e = cc
+-- what holds of all that a document without a fault says holds of what a text says
+module _ (P : Metadata → Type 0) (given : (d : Document) → DocumentForm d → fault_of d ≡ None → P (meaning_of d)) where
+  judged : (d : Document) (m : Metadata) → DocumentForm d → (o : Option MetaFault) → fault_of d ≡ o → judged_by d o ≡ Ok m → P m
+  judged d m form (Some fault) h e = cc
+  judged d m form None h e = subst P (same_metadata (meaning_of d) m e) (given d form h)
 
-parsed : (m : Metadata) (b : Bool) (o : Option Members) → (if b then Err TooLong else parsed_by o) ≡ Ok m → Sound m
-parsed m true o e = cc
-parsed m false (Some ms) e = formed ms m (document_of ms) refl e
-parsed m false None e = cc
+  formed : (ms : Members) (m : Metadata) → (o : Option Document) → document_of ms ≡ o → formed_by o ≡ Ok m → P m
+  formed ms m (Some d) h e = judged d m (document_form ms d h) (fault_of d) refl e
+  formed ms m None h e = cc
+
+  parsed : (m : Metadata) → (b : Bool) (o : Option Members) → (if b then Err TooLong else parsed_by o) ≡ Ok m → P m
+  parsed m true o e = cc
+  parsed m false (Some ms) e = formed ms m (document_of ms) refl e
+  parsed m false None e = cc
+
+  said_so : (m : Metadata) → IsMetadata m → P m
+  said_so m said = parsed m (nat_lt 1048576 (length said.0)) (toml_of said.0) said.1
 
 pub text_says : (text : List ℕ) (m : Metadata) → metadata_of text ≡ Ok m → IsMetadata m
 text_says text m e = (text, e)
 
 pub metadata_is_sound : (m : Metadata) → IsMetadata m → Sound m
-metadata_is_sound m said = parsed m (nat_lt 1048576 (length said.0)) (toml_of said.0) said.1
+metadata_is_sound m said =
+    said_so (λ m. FewIn m → Sound m) (λ d form h few. meaning_sound d few form h) m said (roles_have_few_names m said)
+
+abbrev HasOwnNames : Metadata → Type 0
+HasOwnNames m = HaveOwnNames m.links
+
+own_names_where_faultless : (d : Document) → DocumentForm d → fault_of d ≡ None → HasOwnNames (meaning_of d)
+own_names_where_faultless d form h =
+    each_own_names d.tables d.tables
+    (or_false (has_twice (flat_map root_names d.tables)) (list_any repeats_a_name d.tables) (faultless d h).once).1
+
+-- no two relationships of a table have one name
+pub links_have_own_names : (m : Metadata) → IsMetadata m → HaveOwnNames m.links
+links_have_own_names = said_so HasOwnNames own_names_where_faultless

@@ -1,1 +1,2 @@
+pub mod LinkNames
 pub mod Sound

@@ -1,5 +1,5 @@
--- What holds of all metadata that is read: numbers are those of tables and columns, settings are in their ranges, and
--- filters fit the rows of their tables. This project's own.
+-- What holds of all metadata that is read: numbers are those of tables and columns, settings are in their ranges, roles
+-- name few session variables, and filters fit the rows of their tables. This project's own.
 use Rattle.std.specs.Prelude.{ℕ, ◌≤◌, ◌<◌, Bool, false, not, List, [], ◌∷◌, length, map, nat_lt, Option, Some, None, option_map, slice_get, IsTrue, ⊤}
 use Rattle.std.specs.List.{list_all, AllByRecursion}
 use Rattle.std.specs.Cmp.Lexicographic.{pointwise}
@@ -13,6 +13,7 @@ use Rattle.role_model.specs.declared.metadata.LinkDef.{LinkDef}
 use Rattle.role_model.specs.declared.metadata.Metadata.{Metadata}
 use Rattle.role_model.specs.declared.metadata.RoleDef.{RoleDef}
 use Rattle.role_model.specs.MetadataNames.{are_one_kind}
+use Rattle.metadata_bounds.specs.Names.{HasFewNames}
 use Rattle.role_model.specs.Texts.{Text}
 use Rattle.plan_model.specs.FilterFits.{fits}
 
@@ -76,5 +77,6 @@ pub record Sound (m : Metadata) : Type 0 where
   pub tables : AllByRecursion SoundTable m.catalog.tables
   pub links : SoundLinks m.catalog.tables m.catalog.tables m.links
   pub roles : AllByRecursion (SoundRole m.catalog.tables) m.roles
+  pub few_names : AllByRecursion HasFewNames m.roles
   pub batch_size : (1 ≤ m.batch_size) × (m.batch_size ≤ 1000)
   pub refetch_ms : (1 ≤ m.refetch_ms) × (m.refetch_ms ≤ 3600000)

@@ -1,6 +1,7 @@
 //! Metadata as it is read from its text, and what a role sees of the tables.
 #![tactic(auto)]
 
+mod links;
 mod meta;
 #[cfg(test)]
 mod tests;

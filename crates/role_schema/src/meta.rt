@@ -1,19 +1,23 @@
-ghost use Rattle.std.specs.Prelude.{◌≡◌, ◌≤◌, length, map, find, option_and_then, slice_get, Ok, Err, IfOk};
+ghost use Rattle.std.specs.Prelude.{◌≡◌, ◌≤◌, length, map, find, option_and_then, slice_get, Some, Ok, Err, IfOk};
 ghost use Rattle.std.specs.List.{AllByRecursion};
 ghost use Rattle.std.specs.Option.{option_copied};
 ghost use Rattle.std.specs.Str.{bytes_eq};
 ghost use Rattle.toml.specs.View.{table_view};
+ghost use Rattle.metadata_bounds.specs.Names.{ShortFilters};
+ghost use Rattle.role_model.specs.declared.metadata.Document.{Document};
 ghost use Rattle.role_model.specs.MetadataForm.{document_of};
 ghost use Rattle.role_model.specs.MetadataFaults.{fault_of};
 ghost use Rattle.role_model.specs.MetadataMeaning.{judged_by, formed_by, metadata_of, IsMetadata};
+ghost use Rattle.role_model.specs.Roles.{links_at};
 ghost use Rattle.role_schema.specs.Sound.{Sound, SoundTable};
 
+use crate::links::{link_at, names_of_all, place_at};
 use data_model::Catalog;
 use metadata_form::{FormFault, read_document, read_toml};
 use metadata_read::{Meaning, find_fault, read_meaning};
 use name_set::NameSet;
-use role_model::{Document, MetaFault, Metadata, RoleDef};
-use scalar_val::NoMemory;
+use role_model::{Document, LinkDef, MetaFault, Metadata, RoleDef};
+use scalar_val::{List, NoMemory};
 use std::alloc::Global;
 use std::marker::Model;
 use toml::Table;
@@ -48,6 +52,7 @@ fn role_at(roles: &[RoleDef], place: Option<usize>) -> Option<&RoleDef>
 }
 
 fn judge(alloc: Global, document: Document) -> Result<Meaning, MetaReadFault>
+    requires short { ShortFilters document.tables }
     ensures ok { IfOk result (λ m. judged_by document (fault_of document) ≡ Ok m.metadata) }
     ensures names { IfOk result (λ m. m.role_names ≡ map (λ r. r.name) m.metadata.roles) }
     ensures refused { (fault : MetaFault) → result ≡ Err (MetaReadFault.Refused fault) → judged_by document (fault_of document) ≡ Err fault }
@@ -59,6 +64,7 @@ fn judge(alloc: Global, document: Document) -> Result<Meaning, MetaReadFault>
 }
 
 fn judge_form(alloc: Global, table: &Table) -> Result<Meaning, MetaReadFault>
+    requires short { (d : Document) → document_of (table_view table.now) ≡ Some d → ShortFilters d.tables }
     ensures ok { IfOk result (λ m. formed_by (document_of (table_view table.now)) ≡ Ok m.metadata) }
     ensures names { IfOk result (λ m. m.role_names ≡ map (λ r. r.name) m.metadata.roles) }
     ensures refused { (fault : MetaFault) → result ≡ Err (MetaReadFault.Refused fault) → formed_by (document_of (table_view table.now)) ≡ Err fault }
@@ -70,6 +76,7 @@ fn judge_form(alloc: Global, table: &Table) -> Result<Meaning, MetaReadFault>
     }
 }
 
+#[tactic(auto, using(metadata_bounds::proofs::FilterTexts::filters_are_short))]
 fn read_metadata(alloc: Global, text: &[u8]) -> Result<Meaning, MetaReadFault>
     ensures ok { IfOk result (λ m. metadata_of text.now ≡ Ok m.metadata) }
     ensures names { IfOk result (λ m. m.role_names ≡ map (λ r. r.name) m.metadata.roles) }
@@ -86,11 +93,12 @@ fn read_metadata(alloc: Global, text: &[u8]) -> Result<Meaning, MetaReadFault>
 }
 
 /// Metadata that was read: tables, relationships, roles and settings. Contracts see what it says; some text says it. A
-/// role is found in logarithmic time.
+/// role and a table's relationship are found in logarithmic time.
 #[derive(Debug, Drop)]
 pub struct Meta {
     said: Metadata,
     role_names: NameSet,
+    link_names: List<NameSet>,
 }
 
 impl Model for Meta {
@@ -106,8 +114,10 @@ impl Model for Meta {
     ghost view = { λ m. m.said };
 
     ghost use Rattle.std.specs.Prelude.{◌≡◌, map};
+    ghost use Rattle.role_schema.specs.LinkNames.{names_of_links};
 
-    ghost invariant = { λ m. IsMetadata m.said × (m.role_names ≡ map (λ r. r.name) m.said.roles) };
+    ghost invariant = { λ m. IsMetadata m.said × (m.role_names ≡ map (λ r. r.name) m.said.roles)
+        × (m.link_names ≡ map names_of_links m.said.links) };
 }
 
 impl Meta {
@@ -124,7 +134,12 @@ impl Meta {
                     metadata: said,
                     role_names,
                 } = meaning;
-                Ok(Meta { said, role_names })
+                let link_names = names_of_all(alloc, said.links.as_slice())?;
+                Ok(Meta {
+                    said,
+                    role_names,
+                    link_names,
+                })
             }
             Err(fault) => Err(fault),
         }
@@ -198,6 +213,15 @@ impl Meta {
         ensures { option_copied result ≡ find (λ r. bytes_eq name.now r.name) self.now.roles }
     {
         role_at(self.said.roles.as_slice(), self.role_names.place(name))
+    }
+
+    /// The relationship of a name of the table of a number.
+    pub(crate) fn link_named(&self, table: u32, name: &str) -> Option<&LinkDef>
+        ensures { option_copied result
+            ≡ find (λ l. bytes_eq name.now l.name) (links_at (slice_get self.now.links table)) }
+    {
+        let place = place_at(self.link_names.get(table as usize), name);
+        link_at(self.said.links.get(table as usize), place)
     }
 
     pub(crate) fn said(&self) -> &Metadata

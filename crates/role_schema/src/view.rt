@@ -11,7 +11,7 @@ ghost use Rattle.role_model.specs.Roles.{only_if, grants_column, sees_column, co
 ghost use Rattle.role_model.specs.Roles.{key_seen, filter_seen, cap_seen, names_by, session_name_seen};
 
 use crate::meta::Meta;
-use data_model::{Column, TableDef};
+use data_model::{Catalog, Column, TableDef};
 use plan_model::Filter;
 use role_model::{Grant, LinkDef, RoleDef};
 use scalar_val::Str;
@@ -81,17 +81,6 @@ fn grant_by(grants: &[Grant], table: u32) -> Option<&Grant>
     for grant in grants {
         if grant.table == table {
             return Some(grant);
-        }
-    }
-    None
-}
-
-fn link_by<'a>(links: &'a [LinkDef], name: &str) -> Option<&'a LinkDef>
-    ensures { option_copied result ≡ find (λ l. bytes_eq name.now l.name) links.now }
-{
-    for link in links {
-        if name == link.name.as_str() {
-            return Some(link);
         }
     }
     None
@@ -184,8 +173,16 @@ impl<'a> RoleView<'a> {
         }
     }
 
+    /// The catalog of all tables, those that the role doesn't see among them.
+    pub fn catalog(&self) -> &'a Catalog
+        ensures { result.now ≡ self.now.metadata.catalog }
+    {
+        &self.meta.said().catalog
+    }
+
+    /// The table of a number, whether or not the role sees it. It has at most 64 columns.
     #[tactic(auto, using(crate::proofs::Uses::narrow_table))]
-    fn table_def(&self, table: u32) -> Option<&'a TableDef>
+    pub fn table_def(&self, table: u32) -> Option<&'a TableDef>
         ensures value { option_copied result ≡ table_at self.now table }
         ensures narrow { IfSome result (λ t. length t.now.columns ≤ 64) }
     {
@@ -226,10 +223,7 @@ impl<'a> RoleView<'a> {
     fn link_named(&self, table: u32, name: &str) -> Option<&'a LinkDef>
         ensures { option_copied result ≡ find (λ l. bytes_eq name.now l.name) (links_at (slice_get self.now.metadata.links table)) }
     {
-        match self.meta.said().links.get(table as usize) {
-            Some(links) => link_by(links.as_slice(), name),
-            None => None,
-        }
+        self.meta.link_named(table, name)
     }
 
     /// The relationship of a name of the table of a number.

@@ -1,0 +1,7 @@
+use crate::{filters, names};
+
+#[test]
+fn laws_take_no_time() {
+    filters();
+    names();
+}
