@@ -14,7 +14,8 @@ fn copy_vals(alloc: Global, vals: &ValList) -> Result<ValList, NoMemory>
     Ok(copy)
 }
 
-fn copy_slot(alloc: Global, slot: &Slot) -> Result<Slot, NoMemory>
+/// An equal slot.
+pub fn copy_slot(alloc: Global, slot: &Slot) -> Result<Slot, NoMemory>
     ensures { IfOk result (λ copy. copy ≡ slot.now) }
 {
     match slot {

@@ -6,7 +6,7 @@ mod condition;
 #[cfg(test)]
 mod tests;
 
-pub use binding::copy_binding;
+pub use binding::{copy_binding, copy_slot};
 pub use condition::truth;
 pub use plan_model::{
     Binding, ColumnList, Field, FieldList, Filter, FilterList, Items, Op, Operand, OperandList,

@@ -1,0 +1,2 @@
+pub mod ListRules
+pub mod PlaceRules
