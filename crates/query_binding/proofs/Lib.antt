@@ -1,0 +1,3 @@
+pub mod AddedRules
+pub mod OrderRules
+pub mod SessionRules

@@ -1,0 +1,5 @@
+pub mod Distinct
+pub mod Gathering
+pub mod FilterForms
+pub mod Tables
+pub mod PlanForms

@@ -1,0 +1,2 @@
+pub mod SlotRefs
+pub mod Gathered
