@@ -1,5 +1,6 @@
 -- A stream that is moved to a cohort that was made ready for it.
-use Rattle.std.proofs.Common.{if◌then◌else◌, ◌≡◌, ◌∙◌, ℕ, ◌<◌, ◌+◌, zero, suc, Bool, true, false, ◌&&◌, ◌==◌, Option, Some, None, List, [], ◌∷◌, length, map, drop, refl, sym, ap, subst, arith, get_or, eq-eqb}
+use Rattle.std.proofs.Common.{if◌then◌else◌, ◌≡◌, ◌∙◌, ℕ, ◌<◌, ◌+◌, zero, suc, Bool, true, false, ◌&&◌, ◌==◌, Option, Some, None, List, [], ◌∷◌, length, map, drop, refl, sym, ap, subst, arith, get_or, eq-eqb, ◌⊎◌, inl, inr}
+use Rattle.std.proofs.lemmas.Bool.{eqb-true}
 use Rattle.std.specs.Option.{option_map}
 use Rattle.std.specs.List.{AllByRecursion, Contains, cons_option, slice_get}
 use Rattle.std.specs.Ordering.{is_eq}
@@ -11,7 +12,7 @@ use Rattle.cohort_map.specs.declared.seat.Seat.{Seat}
 use Rattle.cohort_map.specs.declared.seat.ReadySeat.{ReadySeat}
 use Rattle.cohort_map.specs.Keys.{with_cursor}
 use Rattle.cohort_map.specs.Entries.{Entry, Ready, moved, rehomed}
-use Rattle.cohort_map.specs.Seats.{is_kept, is_at, at, seen, entry_with, entries_of, ready_with, ready_seen, ready_of, IsReadyWithin, IsSound, CanMove, IsReady, IsSeated, IsReadyTo, seat_moved}
+use Rattle.cohort_map.specs.Seats.{is_kept, is_at, at, seen, entry_with, entries_of, ready_with, ready_seen, ready_of, IsReadyWithin, IsSound, CanMove, IsReady, IsSeated, IsReadyTo, TellsReady, seat_moved}
 use Rattle.cohort_map.proofs.Lists.{onto, seen_over, some_map}
 use Rattle.cohort_map.proofs.Alls.{all_at, all_over, all_weaker, all_both, drop_at, read_same}
 use Rattle.cohort_map.proofs.Exact.{eq_is, is_equal}
@@ -174,3 +175,31 @@ reached keys ready n cursor i key inside named is equal = record {
   is = is;
   reaches = val_cmp-exact key.binding.cursor cursor (eq_is (val_cmp key.binding.cursor cursor) equal);
 }
+
+-- ---- by a test
+
+both_true : (a b : Bool) → (a && b) ≡ true → (a ≡ true) × (b ≡ true)
+both_true true b h = (refl, h)
+both_true false b h = cc
+
+one_false : (a b : Bool) → (a && b) ≡ false → (a ≡ false) ⊎ (b ≡ false)
+one_false true b h = inr h
+one_false false b h = inl refl
+
+pub reached_by : (keys : List CohortKey) (ready : List ReadySeat) (n : ℕ) (cursor : Val) (i : ℕ) (told : Bool) →
+    i < length ready → (get_or ready i no_ready).cohort < length keys → told ≡ true →
+    TellsReady keys (get_or ready i no_ready) n cursor told → IsReadyTo keys ready n cursor (get_or ready i no_ready).cohort
+reached_by keys ready n cursor i told inside within holds tells =
+    let r : ReadySeat = get_or ready i no_ready in
+    let key = has_key keys r.cohort within in
+    let both = both_true (r.number == n) (is_eq (val_cmp key.0.binding.cursor cursor)) (sym (tells key.0 key.1) ∙ holds) in
+    reached keys ready n cursor i key.0 inside (eqb-true r.number n both.0) key.1 both.1
+
+pub other_by : (keys : List CohortKey) (n : ℕ) (cursor : Val) (r : ReadySeat) (told : Bool) →
+    r.cohort < length keys → told ≡ false → TellsReady keys r n cursor told → IsOther keys n cursor r
+other_by keys n cursor r told within fails tells =
+    let key = has_key keys r.cohort within in
+    elim (one_false (r.number == n) (is_eq (val_cmp key.0.binding.cursor cursor)) (sym (tells key.0 key.1) ∙ fails)) [
+      | inl differs ↦ other_number keys n cursor r (λ same. let equal = eq-eqb r.number n same in absurd (cc))
+      | inr differs ↦ other_cursor keys n cursor r key.0 key.1 differs
+    ]

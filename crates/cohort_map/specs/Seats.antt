@@ -3,7 +3,9 @@
 use Rattle.std.specs.Prelude.{◌≡◌, ◌<◌, ◌≤◌, ⊤, ℕ, ◌+◌, Bool, true, false, ◌&&◌, ◌||◌, not, ◌==◌, nat_lt, if◌then◌else◌, is_some, Option, Some, None, List, [], ◌∷◌, ◌++◌, length, map, find, filter_map, Contains, slice_get, slice_index_or}
 use Rattle.std.specs.Option.{option_map}
 use Rattle.std.specs.List.{list_any, position_from, AllByRecursion}
+use Rattle.std.specs.Ordering.{is_eq}
 use Rattle.scalar_val.specs.declared.val.Val.{Val}
+use Rattle.scalar_val.specs.ValOrder.{val_cmp}
 use Rattle.cohort_map.specs.declared.key.CohortKey.{CohortKey}
 use Rattle.cohort_map.specs.declared.member.Member.{Member}
 use Rattle.cohort_map.specs.declared.seat.Seat.{Seat}
@@ -123,6 +125,11 @@ pub record IsReadyTo (keys : List CohortKey) (ready : List ReadySeat) (number : 
   pub to : seat.cohort ≡ cohort
   pub is : slice_get keys cohort ≡ Some key
   pub reaches : key.binding.cursor ≡ cursor
+
+-- a test whether a ready seat has this number and its cohort this cursor
+abbrev pub TellsReady : List CohortKey → ReadySeat → ℕ → Val → Bool → Type 0
+TellsReady keys r number cursor told =
+    (k : CohortKey) → slice_get keys r.cohort ≡ Some k → told ≡ ((r.number == number) && is_eq (val_cmp k.binding.cursor cursor))
 
 abbrev pub seat_ended : Seat → Seat
 seat_ended s = record s { live = false; due = false }

@@ -2,7 +2,7 @@ ghost use Rattle.std.specs.Prelude.{◌≡◌, ◌<◌, ◌≤◌, true, [], ◌
 ghost use Rattle.std.specs.Option.{option_copied};
 ghost use Rattle.std.specs.List.{AllByRecursion};
 ghost use Rattle.cohort_map.specs.Keys.{with_cursor};
-ghost use Rattle.cohort_map.specs.Seats.{IsReadyWithin, IsReadyTo, ready_of};
+ghost use Rattle.cohort_map.specs.Seats.{IsReadyWithin, IsReadyTo, TellsReady, ready_of};
 
 use crate::choice::batch_of;
 use crate::key::{CohortKey, PollerKey};
@@ -44,6 +44,14 @@ fn make_flag(flags: &mut Vec<bool>, count: usize) -> Result<(), NoMemory>
     Ok(())
 }
 
+/// Whether a ready seat is that of a number and a cursor.
+fn is_ready_to(keys: &Keys, seat: &ReadySeat, sub: u64, cursor: &Val) -> bool
+    requires { seat.now.cohort < length keys.now }
+    ensures { TellsReady keys.now seat.now sub cursor.now result }
+{
+    seat.number == sub && cmp(&keys.get(seat.cohort).binding.cursor, cursor).is_eq()
+}
+
 /// The cohort to which a ready pair moves.
 fn ready_cohort(keys: &Keys, ready: &[ReadySeat], sub: u64, cursor: &Val) -> usize
     requires within { AllByRecursion (IsReadyWithin (length keys.now)) ready.now }
@@ -51,11 +59,26 @@ fn ready_cohort(keys: &Keys, ready: &[ReadySeat], sub: u64, cursor: &Val) -> usi
     ensures { IsReadyTo keys.now ready.now sub cursor.now result }
 {
     for seat in ready {
-        if seat.number == sub && cmp(&keys.get(seat.cohort).binding.cursor, cursor).is_eq() {
+        if is_ready_to(keys, seat, sub, cursor) {
             return seat.cohort;
         }
     }
     unreachable!()
+}
+
+/// The same, which is quick where the pair stands at a place.
+fn ready_cohort_at(keys: &Keys, ready: &[ReadySeat], place: usize, sub: u64, cursor: &Val) -> usize
+    requires within { AllByRecursion (IsReadyWithin (length keys.now)) ready.now }
+    requires pair { Contains (ready_of keys.now ready.now) (record { number = sub; cursor = cursor.now }) }
+    ensures { IsReadyTo keys.now ready.now sub cursor.now result }
+{
+    if place < ready.len() {
+        let seat = &ready[place];
+        if is_ready_to(keys, seat, sub, cursor) {
+            return seat.cohort;
+        }
+    }
+    ready_cohort(keys, ready, sub, cursor)
 }
 
 /// Subscriptions, grouped in pollers and cohorts. Contracts see the list of its entries in order of number, and the list of
@@ -69,6 +92,9 @@ pub struct CohortMap {
     seats: Vec<Seat>,
     busy: Vec<bool>,
     ready: Vec<ReadySeat>,
+    /// How many moves were made since the list of ready ones was empty: the place of the next one, where they are made in
+    /// the order in which they were made ready.
+    moved: usize,
 }
 
 impl Model for CohortMap {
@@ -98,6 +124,7 @@ impl CohortMap {
             seats: Vec::new(alloc),
             busy: Vec::new(alloc),
             ready: Vec::new(alloc),
+            moved: 0,
         }
     }
 
@@ -247,7 +274,8 @@ impl CohortMap {
         ensures entries { self.new.entries ≡ rehomed sub cursor.now self.old.entries }
         ensures ready { self.new.ready ≡ self.old.ready }
     {
-        let cohort = ready_cohort(&self.keys, &self.ready, sub, cursor);
+        let cohort = ready_cohort_at(&self.keys, &self.ready, self.moved, sub, cursor);
+        self.moved = self.moved.saturating_add(1);
         move_to(&mut self.seats, sub, cohort);
     }
 
@@ -257,5 +285,6 @@ impl CohortMap {
         ensures ready { self.new.ready ≡ [] }
     {
         self.ready.clear();
+        self.moved = 0;
     }
 }

@@ -47,3 +47,18 @@ fn a_digest_is_that_of_the_text(rt: HostRuntime) -> Result<(), Fail> {
     assert_eq!(rt; other.kept().text().as_slice(), b"abc".as_slice());
     Ok(())
 }
+
+// The digest is that of the message of no bits in NIST's test vectors for SHA-256.
+#[test]
+fn an_empty_text_has_a_digest(rt: HostRuntime) -> Result<(), Fail> {
+    let text = bytes(rt.alloc(), "")?;
+    let expected = Digest {
+        bytes: [
+            0xe3, 0xb0, 0xc4, 0x42, 0x98, 0xfc, 0x1c, 0x14, 0x9a, 0xfb, 0xf4, 0xc8, 0x99, 0x6f,
+            0xb9, 0x24, 0x27, 0xae, 0x41, 0xe4, 0x64, 0x9b, 0x93, 0x4c, 0xa4, 0x95, 0x99, 0x1b,
+            0x78, 0x52, 0xb8, 0x55,
+        ],
+    };
+    assert!(rt; digest_of(&text) == expected);
+    Ok(())
+}

@@ -1,0 +1,76 @@
+//! Streams of one poller, each with a variable.
+ghost use Rattle.std.specs.Prelude.{◌≡◌, ◌+◌, false, IfOk, OnOk};
+ghost use Rattle.scalar_val.specs.Values.{is_null};
+ghost use Rattle.stream_cursor.specs.Example.{HasStreams};
+ghost use Rattle.bench_cohorts.specs.Numbered.{AreNumbered};
+
+use cohort_map::{CohortMap, PollerKey};
+use plan_core::{Binding, Slot, SlotList, ValList};
+use scalar_val::{NoMemory, Str, Val, Word};
+use std::alloc::Global;
+use stream_cursor::{Move, MoveList, rekey};
+
+const CANON: &str = "subscription post:post(where:{author_id:{_eq:$0}}){id:id title:title}";
+
+fn poller(alloc: Global) -> Result<PollerKey, NoMemory> {
+    Ok(PollerKey {
+        word: Word::Subscription,
+        role: Str::of(alloc, "reader")?,
+        canon: Str::of(alloc, CANON)?,
+    })
+}
+
+fn binding(alloc: Global, variable: u32) -> Result<Binding, NoMemory>
+    ensures { IfOk result (λ binding. is_null binding.cursor ≡ false) }
+{
+    let mut vars = SlotList::new(alloc);
+    match vars.push(Slot::One(Val::Big(variable as i64))) {
+        Ok(()) => Ok(Binding {
+            vars,
+            session: ValList::new(alloc),
+            cursor: Val::Int(0),
+        }),
+        Err(_back) => Err(NoMemory),
+    }
+}
+
+/// Joins so many subscriptions, of so many cohorts.
+pub fn join_all(
+    alloc: Global,
+    map: &mut CohortMap,
+    count: u32,
+    cohorts: u32,
+) -> Result<(), NoMemory>
+    requires { HasStreams 1 map.old }
+    ensures { OnOk result (HasStreams (count + 1) map.new) }
+{
+    for number in 0..count {
+        let variable = if cohorts == 0 { 0 } else { number % cohorts };
+        let poller = poller(alloc)?;
+        let binding = binding(alloc, variable)?;
+        map.join(alloc, number as u64 + 1, poller, binding)?;
+    }
+    Ok(())
+}
+
+/// Moves of the numbers from 1 on to one cursor.
+fn moves(alloc: Global, count: u32) -> Result<MoveList, NoMemory>
+    ensures { IfOk result (λ moves. AreNumbered (count + 1) moves) }
+{
+    let mut moves = Vec::with_capacity(alloc, count as usize)?;
+    for number in 0..count {
+        moves.push(Move {
+            sub: number as u64 + 1,
+            cursor: Val::Int(1),
+        })?;
+    }
+    Ok(MoveList::from_vec(moves))
+}
+
+/// Moves all subscriptions to another cursor by one call.
+pub fn move_all(alloc: Global, map: &mut CohortMap, count: u32) -> Result<(), NoMemory>
+    requires { HasStreams (count + 1) map.old }
+{
+    let moves = moves(alloc, count)?;
+    rekey(alloc, map, &moves)
+}

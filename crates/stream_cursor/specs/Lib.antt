@@ -1,0 +1,4 @@
+pub mod Cursors
+pub mod Example
+pub mod Moves
+pub mod Steps
