@@ -4,5 +4,5 @@ mod StreamPieces
 mod StreamTables
 mod SettledTables
 mod StreamGrowth
-mod StreamsOnce
-mod StreamResults
+pub mod StreamsOnce
+pub mod StreamResults

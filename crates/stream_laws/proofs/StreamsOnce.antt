@@ -31,7 +31,7 @@ use Rattle.query_model.specs.Queries.{Query, root_of, view_of}
 use Rattle.plan_model.specs.Taken.{directed, is_beyond, at_most}
 use Rattle.plan_model.specs.Outcomes.{last_row}
 use Rattle.query_model.specs.Results.{is_asked, is_permitted}
-use Rattle.query_model.specs.StreamLaws.{Stream, stream_by, stream_in, next_rows, cursor_after, streamed, cursor_at_end, is_passed, passed, NeverFall, is_whole_key, is_unique, transactions_append, Appended, StreamsSendOnce}
+use Rattle.query_model.specs.StreamLaws.{Stream, stream_by, stream_in, stream_of, next_rows, cursor_after, streamed, cursor_at_end, is_passed, passed, NeverFall, is_whole_key, is_unique, transactions_append, Appended, StreamsSendOnce}
 use Rattle.stream_laws.proofs.SortedRows.{same_filter, each_of, pairs_filter, keeps_none}
 use Rattle.stream_laws.proofs.StreamOrder.{is_told, tells, direction_total}
 use Rattle.stream_laws.proofs.SettledTables.{Settled, Orderly, settled_after}
@@ -286,8 +286,13 @@ found_in m q (f ∷ []) s h = let r = found_by m q (root_of (view_of m q) q.sele
 found_in m q [] s h = absurd (let k : ◌≡◌ {A = Option Stream} None (Some s) = h in cc)
 found_in m q (f ∷ g ∷ fs) s h = absurd (let k : ◌≡◌ {A = Option Stream} None (Some s) = h in cc)
 
+-- from any cursor on
+pub any_streams_send_once : (m : Metadata) (q : Query) (s : Stream) → stream_of m q ≡ Some s → (txs : List (List TxChange)) (since : ℕ) (versions : List ℕ) (c : Val) → NeverFall since versions → Appended m q s txs since →
+    streamed m q s txs versions c ≡ passed m q s txs c (cursor_at_end m q s txs versions c)
+any_streams_send_once m q s found txs since versions c rise appended =
+    let r = found_in m q q.selection.fields s found in
+    subst (λ z. Appended m q z txs since → streamed m q z txs versions c ≡ passed m q z txs c (cursor_at_end m q z txs versions c)) r.2
+    (λ app. sends_once m q r.0 r.1 txs since app versions c rise) appended
+
 pub streams_send_once : StreamsSendOnce
-streams_send_once m a _ s found txs since versions _ rise _ appended =
-    let r = found_in m a.query a.query.selection.fields s found in
-    subst (λ z. Appended m a.query z txs since → streamed m a.query z txs versions a.cursor ≡ passed m a.query z txs a.cursor (cursor_at_end m a.query z txs versions a.cursor)) r.2
-    (λ app. sends_once m a.query r.0 r.1 txs since app versions a.cursor rise) appended
+streams_send_once m a _ s found txs since versions _ rise _ appended = any_streams_send_once m a.query s found txs since versions a.cursor rise appended

@@ -1,0 +1,10 @@
+pub mod Cohorts
+pub mod Messages
+pub mod State
+pub mod Connections
+pub mod Batches
+pub mod Publication
+pub mod Run
+pub mod Transcript
+pub mod Lines
+pub mod Script

@@ -1,0 +1,4 @@
+pub mod Laws
+pub mod Takings
+pub mod Admissions
+pub mod Streams

@@ -1,0 +1,5 @@
+pub mod OneMeaning
+pub mod SomeMeaning
+pub mod SameOutcome
+pub mod SomeOutcome
+mod Worked
