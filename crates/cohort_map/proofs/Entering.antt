@@ -8,7 +8,7 @@ use Rattle.cohort_map.specs.declared.key.CohortKey.{CohortKey}
 use Rattle.cohort_map.specs.declared.seat.Seat.{Seat}
 use Rattle.cohort_map.specs.declared.seat.ReadySeat.{ReadySeat}
 use Rattle.cohort_map.specs.Entries.{Entry, Ready}
-use Rattle.cohort_map.specs.Seats.{Rise, is_kept, is_at, entry_with, entries_of, ready_with, ready_seen, ready_of, CanMove, IsReady, IsSeated, IsCohortOf, IsCut, EndsKept}
+use Rattle.cohort_map.specs.Seats.{Rise, is_at, entry_with, entries_of, ready_seen, ready_of, CanMove, IsReady, IsSeated, IsCohortOf, IsCut, EndsKept}
 use Rattle.cohort_map.proofs.Alls.{all_more, all_weaker, all_from}
 use Rattle.cohort_map.proofs.Finding.{found}
 use Rattle.cohort_map.proofs.Rising.{number_of}

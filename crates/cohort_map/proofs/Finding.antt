@@ -1,9 +1,8 @@
 -- The entry of a number, by its seat.
-use Rattle.std.proofs.Common.{◌≡◌, ◌∙◌, ℕ, ◌<◌, zero, suc, Bool, true, false, ◌||◌, Option, Some, None, List, [], ◌∷◌, length, refl, sym, ap, subst, arith, cond, get_or, if◌then◌else◌}
+use Rattle.std.proofs.Common.{◌≡◌, ◌∙◌, ℕ, ◌<◌, zero, suc, Bool, true, false, ◌||◌, Option, Some, None, List, [], ◌∷◌, length, refl, sym, ap, subst, arith, get_or, if◌then◌else◌}
 use Rattle.std.proofs.lemmas.Option.{get_or_from_slice_get}
 use Rattle.std.specs.Option.{option_map}
 use Rattle.std.specs.List.{AllByRecursion, list_any, find, filter, slice_get}
-use Rattle.plan_model.specs.declared.filter.Binding.{Binding}
 use Rattle.cohort_map.specs.declared.key.CohortKey.{CohortKey}
 use Rattle.cohort_map.specs.declared.seat.Seat.{Seat}
 use Rattle.cohort_map.specs.Entries.{Entry, entry_at, is_busy_by, members_by, members_with}

@@ -12,3 +12,4 @@ pub mod Finding
 pub mod Rehoming
 pub mod Entering
 pub mod Steps
+pub mod Living

@@ -1,5 +1,5 @@
 -- Lists of which only some items are seen, each as another.
-use Rattle.std.proofs.Common.{◌≡◌, ℕ, Bool, true, false, List, [], ◌∷◌, ◌++◌, length, map, Option, Some, None, refl, sym, ap, subst, cond, ◌||◌}
+use Rattle.std.proofs.Common.{◌≡◌, Bool, true, false, List, [], ◌∷◌, map, Option, Some, None, refl, sym, ap, cond, ◌||◌}
 use Rattle.std.specs.List.{AllByRecursion, filter_map, cons_option, list_any, find, filter}
 
 -- what f makes of a value, if there is one

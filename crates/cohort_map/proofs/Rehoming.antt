@@ -1,7 +1,6 @@
 -- A stream that is moved to a cohort that was made ready for it.
-use Rattle.std.proofs.Common.{if◌then◌else◌, ◌≡◌, ◌∙◌, ℕ, ◌<◌, ◌+◌, zero, suc, Bool, true, false, ◌&&◌, ◌==◌, Option, Some, None, List, [], ◌∷◌, length, map, drop, refl, sym, ap, subst, arith, get_or, eq-eqb, ◌⊎◌, inl, inr}
+use Rattle.std.proofs.Common.{if◌then◌else◌, ◌≡◌, ◌∙◌, ℕ, ◌<◌, ◌+◌, zero, suc, Bool, true, false, ◌&&◌, ◌==◌, Option, Some, List, [], ◌∷◌, length, map, drop, refl, sym, ap, subst, arith, get_or, eq-eqb, ◌⊎◌, inl, inr}
 use Rattle.std.proofs.lemmas.Bool.{eqb-true}
-use Rattle.std.specs.Option.{option_map}
 use Rattle.std.specs.List.{AllByRecursion, Contains, cons_option, slice_get}
 use Rattle.std.specs.Ordering.{is_eq}
 use Rattle.scalar_val.specs.declared.val.Val.{Val}

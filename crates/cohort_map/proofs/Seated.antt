@@ -1,15 +1,12 @@
 -- The invariant of the map, kept by each call.
-use Rattle.std.proofs.Common.{if◌then◌else◌, ◌≡◌, ◌∙◌, ℕ, ◌<◌, ◌≤◌, zero, suc, Bool, true, false, ◌&&◌, ◌||◌, not, Option, Some, None, is_some, List, [], ◌∷◌, ◌++◌, length, map, refl, sym, ap, subst, arith}
-use Rattle.std.specs.Option.{option_map}
-use Rattle.std.specs.List.{All, AllByRecursion, filter_map, cons_option, slice_get}
+use Rattle.std.proofs.Common.{if◌then◌else◌, ◌≡◌, ◌∙◌, ℕ, ◌<◌, ◌≤◌, Bool, true, false, ◌&&◌, ◌||◌, not, Option, Some, None, List, [], ◌∷◌, ◌++◌, length, map, refl, sym, ap, subst, arith}
+use Rattle.std.specs.List.{All, AllByRecursion, cons_option, slice_get}
 use Rattle.std.proofs.lemmas.List.Elements.{filter_map-append}
 use Rattle.cohort_map.specs.declared.key.CohortKey.{CohortKey}
-use Rattle.cohort_map.specs.declared.key.PollerKey.{PollerKey}
-use Rattle.plan_model.specs.declared.filter.Binding.{Binding}
 use Rattle.cohort_map.specs.declared.seat.Seat.{Seat}
 use Rattle.cohort_map.specs.declared.seat.ReadySeat.{ReadySeat}
 use Rattle.cohort_map.specs.declared.member.Member.{Member}
-use Rattle.cohort_map.specs.Entries.{Entry, Ready, entered}
+use Rattle.cohort_map.specs.Entries.{Entry, Ready}
 use Rattle.cohort_map.specs.Batches.{is_member, is_job}
 use Rattle.cohort_map.specs.Seats.{Rise, is_kept, seen, entry_with, entries_of, ready_with, ready_seen, ready_of, IsSound, CanMove, IsReady, IsSeated, is_at, at, IsCut, EndsKept, seat_ended, seat_marked, seat_opened, seat_freed, seat_closed, seat_ticked, is_cohort_busy}
 use Rattle.cohort_map.proofs.Alls.{all_over, all_weaker, all_more, all_front, all_from}

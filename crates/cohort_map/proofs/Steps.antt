@@ -1,12 +1,11 @@
 -- The steps of the loops over seats.
-use Rattle.std.specs.Prelude.{⊤}
-use Rattle.std.proofs.Common.{if◌then◌else◌, ◌≡◌, ◌≢◌, ◌∙◌, ℕ, ◌<◌, ◌≤◌, ◌+◌, ◌-◌, zero, suc, Bool, true, false, ◌&&◌, ◌||◌, not, ◌==◌, List, [], ◌∷◌, ◌++◌, length, map, take, drop, get_or, refl, sym, ap, subst, arith, add-one, eq-eqb}
+use Rattle.std.proofs.Common.{if◌then◌else◌, ◌≡◌, ◌≢◌, ◌∙◌, ℕ, ◌<◌, ◌≤◌, ◌+◌, ◌-◌, zero, suc, Bool, true, false, ◌&&◌, ◌||◌, not, ◌==◌, List, [], ◌∷◌, ◌++◌, length, map, take, get_or, refl, sym, ap, subst, arith, add-one, eq-eqb}
 use Rattle.std.proofs.lemmas.Bool.{eqb-true, ne_eqb}
-use Rattle.std.specs.List.{AllByRecursion, list_any, filter}
+use Rattle.std.specs.List.{AllByRecursion}
 use Rattle.cohort_map.specs.declared.member.Member.{Member}
 use Rattle.cohort_map.specs.declared.seat.Seat.{Seat}
 use Rattle.cohort_map.specs.Batches.{is_member}
-use Rattle.cohort_map.specs.Seats.{Rise, is_kept, is_at, at, IsWithin, EndsKept, seat_marked, seat_opened, has_job_in, is_cohort_busy, seat_due_by, seat_ticked}
+use Rattle.cohort_map.specs.Seats.{Rise, is_kept, is_at, at, IsWithin, EndsKept, seat_marked, seat_opened, is_cohort_busy, seat_due_by, seat_ticked}
 use Rattle.cohort_map.proofs.Alls.{read_same}
 use Rattle.cohort_map.proofs.Rising.{no_seat, other_number, at_here, at_other, rise_over}
 

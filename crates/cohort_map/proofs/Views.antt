@@ -1,8 +1,8 @@
 -- What contracts see of seats, before and after each call.
 use Rattle.std.specs.Prelude.{⊤}
-use Rattle.std.proofs.Common.{if◌then◌else◌, ◌≡◌, ◌∙◌, ℕ, ◌<◌, zero, suc, Bool, true, false, ◌&&◌, ◌||◌, not, ◌==◌, Option, Some, None, is_some, List, [], ◌∷◌, ◌++◌, length, map, refl, sym, ap, subst, arith, eq-eqb}
+use Rattle.std.proofs.Common.{if◌then◌else◌, ◌≡◌, ◌∙◌, ℕ, ◌<◌, zero, suc, Bool, true, false, ◌&&◌, ◌||◌, not, ◌==◌, Option, Some, None, is_some, List, [], ◌∷◌, length, map, refl, sym, ap, arith, eq-eqb}
 use Rattle.std.specs.Option.{option_map}
-use Rattle.std.specs.List.{AllByRecursion, filter_map, list_any, find, filter, slice_get}
+use Rattle.std.specs.List.{AllByRecursion, list_any, find, filter, slice_get}
 use Rattle.std.proofs.lemmas.Bool.{eqb-true}
 use Rattle.cohort_map.specs.declared.key.CohortKey.{CohortKey}
 use Rattle.cohort_map.specs.declared.member.Member.{Member}
@@ -218,7 +218,7 @@ job_kept : (l : Bool) (j : Option ℕ) → is_some j ≡ true → (l || is_some 
 job_kept true j h = refl
 job_kept false j h = h
 
-live_kept : (l : Bool) (j : Option ℕ) → l ≡ true → (l || is_some j) ≡ true
+pub live_kept : (l : Bool) (j : Option ℕ) → l ≡ true → (l || is_some j) ≡ true
 live_kept true j h = refl
 live_kept false j h = absurd (cc)
 
@@ -271,7 +271,7 @@ pub all_filter : {X : Type 0} (P : X → Type 0) (u : X → Bool) (xs : List X) 
 all_filter P u [] all = tt
 all_filter P u (x ∷ xs) all = filtered P u x xs (u x) all.0 (all_filter P u xs all.1)
 
-kept_filter : (u : Seat → Bool) → ((s : Seat) → u s ≡ true → is_kept s ≡ true) → (seats : List Seat) → AllByRecursion (λ s. is_kept s ≡ true) (filter u seats)
+pub kept_filter : (u : Seat → Bool) → ((s : Seat) → u s ≡ true → is_kept s ≡ true) → (seats : List Seat) → AllByRecursion (λ s. is_kept s ≡ true) (filter u seats)
 kept_filter u only [] = tt
 kept_filter u only (s ∷ seats) = kept_cons s (filter u seats) (u s) (only s) (kept_filter u only seats)
 
@@ -288,7 +288,7 @@ members_seen keys seats s k apart all is =
     sym (numbers_seen keys (filter u seats) (all_filter (Within (length keys)) u seats all) (kept_filter u only seats))
     ∙ ap numbers (sym (filter_seen (Within (length keys)) (seen keys) u (is_live_in_cohort_of (entry_with s k)) (λ t within. live_passes keys s k t apart is within) seats all))
 
-length_seen : (keys : List CohortKey) (seats : List Seat) → AllByRecursion (Within (length keys)) seats → AllByRecursion (λ s. is_kept s ≡ true) seats → length (entries_of keys seats) ≡ length seats
+pub length_seen : (keys : List CohortKey) (seats : List Seat) → AllByRecursion (Within (length keys)) seats → AllByRecursion (λ s. is_kept s ≡ true) seats → length (entries_of keys seats) ≡ length seats
 length_seen keys [] all kept = refl
 length_seen keys (s ∷ seats) all kept =
     let key = has_key keys s.cohort all.0 in

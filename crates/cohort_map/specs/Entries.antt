@@ -1,6 +1,6 @@
 -- What a map of cohorts holds, and what each of its calls does to the list of its entries. Cohorts are Hasura's ("Live
 -- queries"); numbers, jobs and the rules of due subscriptions are this project's own.
-use Rattle.std.specs.Prelude.{ℕ, Bool, true, false, ◌&&◌, ◌||◌, not, ◌==◌, if◌then◌else◌, is_some, Option, Some, None, List, [], ◌∷◌, ◌++◌, length, map, filter, filter_map, find}
+use Rattle.std.specs.Prelude.{ℕ, Bool, true, false, ◌&&◌, ◌||◌, not, ◌==◌, if◌then◌else◌, is_some, Option, Some, None, List, [], length, map, filter, filter_map, find}
 use Rattle.std.specs.List.{list_any}
 use Rattle.scalar_val.specs.declared.val.Val.{Val}
 use Rattle.plan_model.specs.declared.filter.Binding.{Binding}
@@ -36,6 +36,18 @@ entry_at number entries = find (is_entry number) entries
 
 abbrev pub has : ℕ → List Entry → Bool
 has number entries = list_any (is_entry number) entries
+
+abbrev pub is_live : Entry → Bool
+is_live e = e.live
+
+abbrev pub is_live_entry : ℕ → Entry → Bool
+is_live_entry number e = is_entry number e && is_live e
+
+abbrev pub has_live : ℕ → List Entry → Bool
+has_live number entries = list_any (is_live_entry number) entries
+
+abbrev pub live_count : List Entry → ℕ
+live_count entries = length (filter is_live entries)
 
 -- a member of an open job
 abbrev pub is_marked : Entry → Bool

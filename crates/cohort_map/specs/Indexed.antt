@@ -1,5 +1,5 @@
 -- Keys, each at one place, and the index by which a key's place is found.
-use Rattle.std.specs.Prelude.{◌≡◌, ℕ, Option, Some, List, slice_get}
+use Rattle.std.specs.Prelude.{◌≡◌, ℕ, Some, List, slice_get}
 use Rattle.std.specs.BTreeMap.{BTreeMap, get}
 use Rattle.cohort_map.specs.declared.key.CohortKey.{CohortKey}
 use Rattle.cohort_map.specs.Keys.{key_cmp}

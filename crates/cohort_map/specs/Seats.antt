@@ -1,6 +1,6 @@
 -- How the map holds its entries: a seat for each number that joined, in order. A seat whose subscription neither lives nor is a
 -- member of an open job is empty.
-use Rattle.std.specs.Prelude.{◌≡◌, ◌<◌, ◌≤◌, ⊤, ℕ, ◌+◌, Bool, true, false, ◌&&◌, ◌||◌, not, ◌==◌, nat_lt, if◌then◌else◌, is_some, Option, Some, None, List, [], ◌∷◌, ◌++◌, length, map, find, filter_map, Contains, slice_get, slice_index_or}
+use Rattle.std.specs.Prelude.{◌≡◌, ◌<◌, ◌≤◌, ⊤, ℕ, ◌+◌, Bool, true, false, ◌&&◌, ◌||◌, not, ◌==◌, if◌then◌else◌, is_some, Option, Some, None, List, [], ◌∷◌, ◌++◌, length, map, find, filter_map, Contains, slice_get, slice_index_or}
 use Rattle.std.specs.Option.{option_map}
 use Rattle.std.specs.List.{list_any, position_from, AllByRecursion}
 use Rattle.std.specs.Ordering.{is_eq}
@@ -10,7 +10,7 @@ use Rattle.cohort_map.specs.declared.key.CohortKey.{CohortKey}
 use Rattle.cohort_map.specs.declared.member.Member.{Member}
 use Rattle.cohort_map.specs.declared.seat.Seat.{Seat}
 use Rattle.cohort_map.specs.declared.seat.ReadySeat.{ReadySeat}
-use Rattle.cohort_map.specs.Keys.{same_poller, with_cursor}
+use Rattle.cohort_map.specs.Keys.{with_cursor}
 use Rattle.cohort_map.specs.Entries.{Entry, Ready, Held}
 use Rattle.cohort_map.specs.Batches.{is_member, is_job}
 
@@ -72,6 +72,12 @@ pub record IsSeated (keys : List CohortKey) (seats : List Seat) (ready : List Re
 
 abbrev pub is_at : ℕ → Seat → Bool
 is_at number s = (s.number == number) && is_kept s
+
+abbrev pub seat_live : Seat → Bool
+seat_live s = s.live
+
+abbrev pub is_live_at : ℕ → Seat → Bool
+is_live_at number s = (s.number == number) && s.live
 
 -- the seat of a number, if it isn't empty, becomes what f makes of it
 abbrev pub at : ℕ → (Seat → Seat) → Seat → Seat

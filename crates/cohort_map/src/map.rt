@@ -1,6 +1,8 @@
-ghost use Rattle.std.specs.Prelude.{◌≡◌, ◌<◌, ◌≤◌, true, [], ◌∷◌, ◌++◌, All, Contains, option_map, length, IsTrue, IfOk, OnOk, OnErr};
+ghost use Rattle.std.specs.Prelude.{◌≡◌, ◌<◌, ◌≤◌, true, Some, [], ◌∷◌, ◌++◌, All, Contains, option_map, length, IsTrue, IfOk, OnOk, OnErr};
 ghost use Rattle.std.specs.Option.{option_copied};
 ghost use Rattle.std.specs.List.{AllByRecursion};
+ghost use Rattle.std.specs.List.Sorted.{IsStrictlySortedBy};
+ghost use Rattle.std.specs.Ordering.{nat_cmp};
 ghost use Rattle.cohort_map.specs.Keys.{with_cursor};
 ghost use Rattle.cohort_map.specs.Seats.{IsReadyWithin, IsReadyTo, TellsReady, ready_of};
 
@@ -10,8 +12,8 @@ use crate::keys::Keys;
 use crate::member::{MemberList, SubList};
 use crate::order::copy_key;
 use crate::seat::{
-    ReadySeat, Seat, close, cohort_of, count_due, drop_empty_end, end, is_busy, live_in, move_to,
-    open, tick,
+    ReadySeat, Seat, close, cohort_of, count_due, count_live, drop_empty_end, end, has_seat,
+    is_busy, is_live, live_in, move_to, open, tick,
 };
 use plan_core::Binding;
 use scalar_val::{NoMemory, Val, cmp, copy_val};
@@ -111,7 +113,7 @@ impl Model for CohortMap {
 }
 
 impl CohortMap {
-    ghost use Rattle.cohort_map.specs.Entries.{entered, has, left, entry_at, members_with, is_busy_by, ticked, due_count, has_stream, rehomed};
+    ghost use Rattle.cohort_map.specs.Entries.{entered, has, has_live, live_count, if_kept, numbers, left, entry_at, members_with, is_busy_by, ticked, due_count, has_stream, rehomed};
     ghost use Rattle.cohort_map.specs.Batches.{batch_of, opened, closed};
 
     /// A map without a subscription, which takes no memory.
@@ -164,6 +166,35 @@ impl CohortMap {
         ensures answer { result ≡ has sub self.old.entries }
     {
         end(&mut self.seats, sub)
+    }
+
+    /// Whether a number is in the map. It takes no memory.
+    pub fn has(&self, sub: u64) -> bool
+        ensures { result ≡ has sub self.now.entries }
+    {
+        has_seat(&self.seats, sub)
+    }
+
+    /// Whether a number is in the map and its subscription live. It takes no memory.
+    pub fn lives(&self, sub: u64) -> bool
+        ensures { result ≡ has_live sub self.now.entries }
+    {
+        is_live(&self.seats, sub)
+    }
+
+    /// How many subscriptions are live. It takes no memory.
+    pub fn live_count(&self) -> u64
+        ensures { result ≡ live_count self.now.entries }
+    {
+        count_live(&self.seats)
+    }
+
+    /// The numbers ascend, so that none stands twice, and each entry is live or a member of an open job.
+    pub fn ascend(&self)
+        ensures numbers { IsStrictlySortedBy nat_cmp (numbers self.now.entries) }
+        ensures kept { All (λ e. if_kept e ≡ Some e) self.now.entries }
+    {
+        let _ = self.seats.len();
     }
 
     /// The values that a subscription's plan is run with, or `None` where the number isn't in the map. It takes no memory.

@@ -1,7 +1,7 @@
 ghost use Rattle.std.specs.Prelude.{◌≡◌, ◌<◌, ◌≤◌, ◌||◌, ℕ, Bool, true, false, Some, None, map, filter, find, filter_map, length, take, drop, slice_get, slice_index_or, IfOk, IfSome, IfNone};
 ghost use Rattle.std.specs.List.{list_any, AllByRecursion};
 ghost use Rattle.cohort_map.specs.Batches.{is_job};
-ghost use Rattle.cohort_map.specs.Seats.{Rise, HasSeat, IsCohortOf, IsCut, AreEmpty, EndsKept, AreBelow, AreFrom, is_kept, is_at, at, seat_numbers, seat_ended, seat_marked, seat_opened, seat_closed, seat_due, seat_due_by, seat_moved, seat_ticked, IsWithin, is_live_in, is_cohort_busy, has_job_in, member_seen};
+ghost use Rattle.cohort_map.specs.Seats.{Rise, HasSeat, IsCohortOf, IsCut, AreEmpty, EndsKept, AreBelow, AreFrom, is_kept, is_at, is_live_at, at, seat_live, seat_numbers, seat_ended, seat_marked, seat_opened, seat_closed, seat_due, seat_due_by, seat_moved, seat_ticked, IsWithin, is_live_in, is_cohort_busy, has_job_in, member_seen};
 
 use crate::member::{Member, MemberList, SubList};
 use scalar_val::NoMemory;
@@ -74,6 +74,28 @@ pub(crate) fn cohort_of(seats: &[Seat], number: u64) -> Option<usize>
     match find_seat(seats, number) {
         Some(place) => Some(seats[place].cohort),
         None => None,
+    }
+}
+
+/// Whether a number has a seat that isn't empty.
+pub(crate) fn has_seat(seats: &[Seat], number: u64) -> bool
+    requires { Rise seats.now }
+    ensures { result ≡ list_any (is_at number) seats.now }
+{
+    match find_seat(seats, number) {
+        Some(_place) => true,
+        None => false,
+    }
+}
+
+/// Whether a number has a live seat.
+pub(crate) fn is_live(seats: &[Seat], number: u64) -> bool
+    requires { Rise seats.now }
+    ensures { result ≡ list_any (is_live_at number) seats.now }
+{
+    match find_seat(seats, number) {
+        Some(place) => seats[place].live,
+        None => false,
     }
 }
 
@@ -253,6 +275,19 @@ pub(crate) fn count_due(seats: &[Seat]) -> u64
     let mut count = 0;
     for seat in seats {
         if seat.due {
+            count += 1;
+        }
+    }
+    count
+}
+
+/// How many seats are live.
+pub(crate) fn count_live(seats: &[Seat]) -> u64
+    ensures { result ≡ length (filter seat_live seats.now) }
+{
+    let mut count = 0;
+    for seat in seats {
+        if seat.live {
             count += 1;
         }
     }

@@ -133,3 +133,17 @@ fn an_ended_member_keeps_its_cohort_busy(rt: HostRuntime) -> Result<(), Fail> {
     assert!(rt; map.tick() == 1);
     Ok(())
 }
+
+#[test]
+fn an_ended_member_of_an_open_job_is_there_and_does_not_live(rt: HostRuntime) -> Result<(), Fail> {
+    let alloc = rt.alloc();
+    let mut map = filled(alloc, [("user", 1, 0), ("user", 1, 0)].as_slice())?;
+    assert!(rt; map.tick() == 2);
+    assert_eq!(rt; take(alloc, &mut map, 1, 100)?.as_str(), "1:1 2:1 ");
+    assert!(rt; map.leave(1));
+    map.ascend();
+    assert!(rt; map.has(1) && !map.has(3));
+    assert!(rt; !map.lives(1) && map.lives(2));
+    assert!(rt; map.live_count() == 1);
+    Ok(())
+}

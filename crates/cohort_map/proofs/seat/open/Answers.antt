@@ -1,6 +1,4 @@
-use Rattle.std.proofs.Common.{◌∙◌, ap, map, refl, sym, subst}
-use Rattle.std.proofs.Common.{List}
-use Rattle.cohort_map.specs.declared.seat.Seat.{Seat}
+use Rattle.std.proofs.Common.{◌∙◌, ap, map, sym, subst}
 use Rattle.cohort_map.specs.Seats.{Rise}
 use Rattle.cohort_map.proofs.Steps.{opened_none, marked_rise, mark_step}
 use Rattle.cohort_map.proofs.seat.open.Goals as goal

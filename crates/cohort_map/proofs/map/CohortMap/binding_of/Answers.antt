@@ -1,6 +1,5 @@
-use Rattle.std.proofs.Common.{◌∙◌, ap, sym, length, option_map}
+use Rattle.std.proofs.Common.{ap, sym, length, option_map}
 use Rattle.cohort_map.specs.Entries.{Entry}
-use Rattle.cohort_map.specs.Seats.{IsCohortOf}
 use Rattle.cohort_map.proofs.Views.{within_of}
 use Rattle.cohort_map.proofs.Finding.{binding_is, cohort_within, entry_none}
 use Rattle.cohort_map.proofs.map.CohortMap.binding_of.Goals as goal

@@ -1,4 +1,4 @@
-use Rattle.std.proofs.Common.{◌∙◌, ap, sym, subst, length}
+use Rattle.std.proofs.Common.{◌∙◌, ap, sym, length}
 use Rattle.cohort_map.specs.Entries.{is_busy_by}
 use Rattle.cohort_map.specs.Seats.{IsCohortOf, entries_of}
 use Rattle.cohort_map.proofs.Views.{within_of}

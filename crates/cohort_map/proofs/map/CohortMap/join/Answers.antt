@@ -1,5 +1,5 @@
-use Rattle.std.proofs.Common.{◌∙◌, ◌++◌, ◌∷◌, [], ◌<◌, List, ap, sym, subst, arith, Some}
-use Rattle.std.specs.List.{All, slice_get}
+use Rattle.std.proofs.Common.{◌∙◌, ◌<◌, List, ap, sym, subst, arith}
+use Rattle.std.specs.List.{All}
 use Rattle.cohort_map.specs.declared.seat.Seat.{Seat}
 use Rattle.cohort_map.specs.Entries.{Held, Entry, Ready}
 use Rattle.cohort_map.specs.Seats.{IsSeated, entries_of}

@@ -1,5 +1,4 @@
-use Rattle.std.proofs.Common.{◌∙◌, ◌≡◌, ◌++◌, List, take, drop, length}
-use Rattle.cohort_map.specs.declared.seat.Seat.{Seat}
+use Rattle.std.proofs.Common.{◌∙◌, drop, length}
 use Rattle.cohort_map.proofs.Alls.{whole}
 use Rattle.cohort_map.proofs.Seated.{ended_seated}
 use Rattle.cohort_map.proofs.Views.{left_seen, has_seen, within_of}

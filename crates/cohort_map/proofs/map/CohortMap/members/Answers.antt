@@ -1,6 +1,6 @@
 use Rattle.std.proofs.Common.{◌≡◌, ◌∙◌, ℕ, List, ap, sym, subst, length, IfOk}
 use Rattle.std.specs.List.{filter}
-use Rattle.cohort_map.specs.Entries.{members_by, members_with}
+use Rattle.cohort_map.specs.Entries.{members_by}
 use Rattle.cohort_map.specs.Seats.{IsCohortOf, entries_of, seat_numbers, is_live_in}
 use Rattle.cohort_map.proofs.Views.{within_of}
 use Rattle.cohort_map.proofs.Finding.{members_is, entry_none}

@@ -1,4 +1,4 @@
-use Rattle.std.proofs.Common.{◌≡◌, ◌∙◌, ap, sym, subst, true, false, length, arith, List, Some}
+use Rattle.std.proofs.Common.{◌≡◌, ◌∙◌, ap, sym, subst, true, length, arith, List, Some}
 use Rattle.std.proofs.lemmas.Bool.{false≢true}
 use Rattle.cohort_map.specs.declared.key.CohortKey.{CohortKey}
 use Rattle.cohort_map.specs.declared.seat.ReadySeat.{ReadySeat}
