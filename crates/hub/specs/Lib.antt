@@ -1,8 +1,5 @@
-pub mod State
-pub mod Jobs
-pub mod Stands
-pub mod Replies
-pub mod Plans
-pub mod Reading
 pub mod Seen
 pub mod Parts
+pub mod Telling
+pub mod Messages
+pub mod Taking

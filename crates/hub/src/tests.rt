@@ -1,7 +1,7 @@
-ghost use Rattle.std.specs.Prelude.{◌≡◌, ◌+◌, ◌*◌, ◌^◌, ◌<◌, ◌≤◌, length, IfOk};
+ghost use Rattle.std.specs.Prelude.{◌≡◌, ◌^◌, ◌<◌, OnOk};
 
-use crate::{Answers, CommitReply, ConnReply, Hub, PublishReply, Reason, evaluate};
-use model::QueuedList;
+use crate::{CommitReply, ConnReply, DrainReply, Hub, QueuedList};
+use data_model::Reason;
 use role_schema::Meta;
 use scalar_val::{NoMemory, Steps};
 use std::alloc::Global;
@@ -9,45 +9,99 @@ use std::marker::Brand;
 use std::sync::ledger::{Blank, Ledger};
 use std::test::Fail;
 use tx_apply::read_tx;
+use wire_model::CloseReason;
+
+/// Metadata of one table.
+const META: &str = r#"version = 1
+[[tables]]
+name = "user"
+key = ["id"]
+columns = [{ name = "id", type = "int" }, { name = "name", type = "text", nullable = true }]
+"#;
+
+const INIT: &str = r#"{"type":"connection_init"}"#;
+
+const PING: &str = r#"{"type":"ping"}"#;
+
+const SUBSCRIBE: &str =
+    r#"{"type":"subscribe","id":"a","payload":{"query":"subscription { user { id } }"}}"#;
+
+const COMPLETE: &str = r#"{"type":"complete","id":"a"}"#;
+
+const INSERT: &str = r#"[{"insert":"user","row":{"id":1,"name":"Ann"}}]"#;
 
 /// What is done with a hub.
 #[derive(Clone, Copy)]
 enum Act<'a> {
     Open(u32),
     Say(u32, &'a str),
+    Binary(u32),
+    Timeout(u32),
+    Gone(u32),
+    Drain(u32),
     Commit(&'a str),
-    Poll,
+    Tick,
+    Take,
+    Abandon(u64),
+    Skip,
+    Report,
 }
 
-fn append_line(out: &mut Vec<u8>, text: &[u8]) -> Result<(), NoMemory> {
+/// A hub of a few events.
+fn has_room(hub: &Hub) -> Result<(), NoMemory>
+    ensures { OnOk result (hub.now.events < 2 ^ 62) }
+{
+    if hub.events() < 1000 {
+        Ok(())
+    } else {
+        Err(NoMemory)
+    }
+}
+
+fn line(out: &mut Vec<u8>, text: &[u8]) -> Result<(), NoMemory> {
     out.extend_from_slice(text)?;
     out.push(b'\n')?;
     Ok(())
 }
 
-/// The texts, each followed by a line end.
-fn append(out: &mut Vec<u8>, queued: &QueuedList) -> Result<(), NoMemory> {
+fn line_with(alloc: Global, out: &mut Vec<u8>, word: &str, number: u64) -> Result<(), NoMemory> {
+    let text = format!(in alloc; "{word} {number}")?;
+    line(out, text.as_bytes())
+}
+
+fn tell_queued(out: &mut Vec<u8>, queued: &QueuedList) -> Result<(), NoMemory> {
     for said in queued.as_slice() {
-        append_line(out, said.text.as_slice())?;
+        line(out, said.text.as_bytes())?;
     }
     Ok(())
 }
 
-fn tell(out: &mut Vec<u8>, reply: &ConnReply) -> Result<(), NoMemory> {
-    match reply {
-        ConnReply::Did(effect) => append(out, &effect.queued),
-        ConnReply::ConnKnown => append_line(out, b"known"),
-        ConnReply::ConnUnknown => append_line(out, b"unknown"),
-        ConnReply::Unbuilt => append_line(out, b"unbuilt"),
+fn tell_closed(
+    alloc: Global,
+    out: &mut Vec<u8>,
+    closed: &Option<CloseReason>,
+) -> Result<(), NoMemory> {
+    match closed {
+        Some(reason) => line_with(alloc, out, "closed", u64::from(reason.code())),
+        None => line(out, b"did"),
     }
 }
 
-fn open(alloc: Global, hub: &mut Hub, conn: u32, out: &mut Vec<u8>) -> Result<(), NoMemory>
-    requires { hub.old.events < 2 ^ 62 }
-    ensures { hub.new.events ≤ hub.old.events + 1 }
-{
+fn tell(alloc: Global, out: &mut Vec<u8>, reply: &ConnReply) -> Result<(), NoMemory> {
+    match reply {
+        ConnReply::Did(effect) => {
+            tell_queued(out, &effect.queued)?;
+            tell_closed(alloc, out, &effect.closed)
+        }
+        ConnReply::ConnKnown => line(out, b"known"),
+        ConnReply::ConnUnknown => line(out, b"unknown"),
+    }
+}
+
+fn open(alloc: Global, hub: &mut Hub, conn: u32, out: &mut Vec<u8>) -> Result<(), NoMemory> {
+    has_room(hub)?;
     let reply = hub.connect(alloc, conn)?;
-    tell(out, &reply)
+    tell(alloc, out, &reply)
 }
 
 fn say(
@@ -56,72 +110,44 @@ fn say(
     conn: u32,
     text: &str,
     out: &mut Vec<u8>,
-) -> Result<(), NoMemory>
-    requires { hub.old.events < 2 ^ 62 }
-    ensures { hub.new.events ≤ hub.old.events + 1 }
-{
+) -> Result<(), NoMemory> {
+    has_room(hub)?;
     let reply = hub.recv(alloc, conn, text)?;
-    tell(out, &reply)
+    tell(alloc, out, &reply)
 }
 
-fn publish(
-    alloc: Global,
-    hub: &mut Hub,
-    answers: Answers,
-    out: &mut Vec<u8>,
-) -> Result<(), NoMemory>
-    requires { hub.old.events < 2 ^ 62 }
-    ensures { hub.new.events ≤ hub.old.events + 1 }
-{
-    match hub.publish(alloc, answers) {
-        Ok(PublishReply::Published(queued)) => append(out, &queued),
-        Ok(PublishReply::NotOpen) => append_line(out, b"not open"),
-        Err(_) => Err(NoMemory),
+fn say_binary(alloc: Global, hub: &mut Hub, conn: u32, out: &mut Vec<u8>) -> Result<(), NoMemory> {
+    has_room(hub)?;
+    let reply = hub.binary(alloc, conn);
+    tell(alloc, out, &reply)
+}
+
+fn time_out(alloc: Global, hub: &mut Hub, conn: u32, out: &mut Vec<u8>) -> Result<(), NoMemory> {
+    has_room(hub)?;
+    let reply = hub.timeout(alloc, conn);
+    tell(alloc, out, &reply)
+}
+
+fn go(alloc: Global, hub: &mut Hub, conn: u32, out: &mut Vec<u8>) -> Result<(), NoMemory> {
+    has_room(hub)?;
+    let reply = hub.gone(alloc, conn);
+    tell(alloc, out, &reply)
+}
+
+fn drain(alloc: Global, hub: &mut Hub, conn: u32, out: &mut Vec<u8>) -> Result<(), NoMemory> {
+    has_room(hub)?;
+    match hub.drain_one(conn) {
+        DrainReply::ConnUnknown => line(out, b"unknown"),
+        DrainReply::Sent(text) => line(out, text.as_bytes()),
+        DrainReply::Empty => line(out, b"empty"),
+        DrainReply::Done(reason) => line_with(alloc, out, "done", u64::from(reason.code())),
     }
-}
-
-/// A take and the publication of the job's answers.
-fn work<L: Ledger>(
-    alloc: Global,
-    hub: &mut Hub,
-    steps: &mut Steps<L>,
-    out: &mut Vec<u8>,
-) -> Result<(), NoMemory>
-    requires { hub.old.events + 1 < 2 ^ 62 }
-    ensures { hub.new.events ≤ hub.old.events + 2 }
-{
-    match hub.take(alloc)? {
-        Some(job) => {
-            let outcomes = evaluate(alloc, &job, steps)?;
-            publish(alloc, hub, Answers::of(&job, outcomes), out)
-        }
-        None => append_line(out, b"none"),
-    }
-}
-
-fn poll<L: Ledger>(
-    alloc: Global,
-    hub: &mut Hub,
-    steps: &mut Steps<L>,
-    out: &mut Vec<u8>,
-) -> Result<(), NoMemory>
-    requires { hub.old.events + 2 < 2 ^ 62 }
-    ensures { hub.new.events ≤ hub.old.events + 3 }
-{
-    let _due = hub.tick();
-    work(alloc, hub, steps, out)
 }
 
 fn reason_name(reason: Reason) -> &'static str {
     match reason {
-        Reason::NoTable => "NoTable",
-        Reason::NoColumn => "NoColumn",
-        Reason::WrongKind => "WrongKind",
-        Reason::NullGiven => "NullGiven",
-        Reason::NoRow => "NoRow",
-        Reason::KeyTaken => "KeyTaken",
-        Reason::UniqueTaken => "UniqueTaken",
-        Reason::TableFull => "TableFull",
+        Reason::KeyTaken => "key taken",
+        _ => "refused",
     }
 }
 
@@ -131,16 +157,69 @@ fn commit<L: Ledger>(
     text: &str,
     steps: &mut Steps<L>,
     out: &mut Vec<u8>,
-) -> Result<(), NoMemory>
-    requires { hub.old.events < 2 ^ 62 }
-    ensures { hub.new.events ≤ hub.old.events + 1 }
-{
+) -> Result<(), NoMemory> {
+    has_room(hub)?;
     let Ok(tx) = read_tx(alloc, text) else {
         return Err(NoMemory);
     };
     match hub.commit(alloc, &tx, steps)? {
-        CommitReply::Committed(_) => append_line(out, b"committed"),
-        CommitReply::Refused(fault) => append_line(out, reason_name(fault.reason).as_bytes()),
+        CommitReply::Committed(version) => line_with(alloc, out, "committed", version),
+        CommitReply::Refused(fault) => line(out, reason_name(fault.reason).as_bytes()),
+    }
+}
+
+fn tick(alloc: Global, hub: &mut Hub, out: &mut Vec<u8>) -> Result<(), NoMemory> {
+    has_room(hub)?;
+    let due = hub.tick();
+    line_with(alloc, out, "due", due)
+}
+
+fn take(alloc: Global, hub: &mut Hub, out: &mut Vec<u8>) -> Result<(), NoMemory> {
+    has_room(hub)?;
+    match hub.take(alloc)? {
+        Some(job) => line_with(alloc, out, "job", job.number),
+        None => line(out, b"nobody"),
+    }
+}
+
+fn abandon(hub: &mut Hub, number: u64, out: &mut Vec<u8>) -> Result<(), NoMemory> {
+    has_room(hub)?;
+    if hub.abandon(number) {
+        line(out, b"abandoned")
+    } else {
+        line(out, b"not open")
+    }
+}
+
+fn skip(hub: &mut Hub) -> Result<(), NoMemory> {
+    has_room(hub)?;
+    hub.skip();
+    Ok(())
+}
+
+/// The counts of connections, live and due subscriptions, jobs and transactions.
+fn report(alloc: Global, hub: &Hub, out: &mut Vec<u8>) -> Result<(), NoMemory> {
+    let counts = hub.report();
+    let (connections, live, due) = (counts.connections, counts.live, counts.due);
+    let (jobs, version) = (counts.jobs, counts.version);
+    let text = format!(in alloc; "{connections} {live} {due} {jobs} {version}")?;
+    line(out, text.as_bytes())
+}
+
+fn act_on_jobs<L: Ledger>(
+    alloc: Global,
+    hub: &mut Hub,
+    act: &Act<'_>,
+    steps: &mut Steps<L>,
+    out: &mut Vec<u8>,
+) -> Result<(), NoMemory> {
+    match act {
+        Act::Commit(text) => commit(alloc, hub, text, steps, out),
+        Act::Tick => tick(alloc, hub, out),
+        Act::Take => take(alloc, hub, out),
+        Act::Abandon(number) => abandon(hub, *number, out),
+        Act::Skip => skip(hub),
+        _ => report(alloc, hub, out),
     }
 }
 
@@ -150,251 +229,214 @@ fn act_on<L: Ledger>(
     act: &Act<'_>,
     steps: &mut Steps<L>,
     out: &mut Vec<u8>,
-) -> Result<(), NoMemory>
-    requires { hub.old.events + 2 < 2 ^ 62 }
-    ensures { hub.new.events ≤ hub.old.events + 3 }
-{
+) -> Result<(), NoMemory> {
     match act {
         Act::Open(conn) => open(alloc, hub, *conn, out),
         Act::Say(conn, text) => say(alloc, hub, *conn, text, out),
-        Act::Commit(text) => commit(alloc, hub, text, steps, out),
-        Act::Poll => poll(alloc, hub, steps, out),
+        Act::Binary(conn) => say_binary(alloc, hub, *conn, out),
+        Act::Timeout(conn) => time_out(alloc, hub, *conn, out),
+        Act::Gone(conn) => go(alloc, hub, *conn, out),
+        Act::Drain(conn) => drain(alloc, hub, *conn, out),
+        _ => act_on_jobs(alloc, hub, act, steps, out),
     }
 }
 
-fn act_all<L: Ledger>(
-    alloc: Global,
-    hub: &mut Hub,
-    acts: &[Act<'_>],
-    steps: &mut Steps<L>,
-    out: &mut Vec<u8>,
-) -> Result<(), NoMemory>
-    requires few { length acts.now ≤ 100 }
-    requires fresh { hub.old.events ≡ 0 }
-{
-    for act in acts {
-        act_on(alloc, hub, act, steps, out)?;
-    }
-    Ok(())
-}
-
-fn hub_on(alloc: Global, metadata: &str) -> Result<Hub, NoMemory>
-    ensures { IfOk result (λ hub. hub.events ≡ 0) }
-{
-    match Meta::read(alloc, metadata.as_bytes()) {
+fn new_hub(alloc: Global) -> Result<Hub, NoMemory> {
+    match Meta::read(alloc, META.as_bytes()) {
         Ok(meta) => Hub::new(alloc, meta),
         Err(_) => Err(NoMemory),
     }
 }
 
-/// Whether the hub knows the first connection, and which secret is configured.
-fn describe(hub: &Hub, out: &mut Vec<u8>) -> Result<(), NoMemory> {
-    append_line(out, if hub.knows(1) { b"knows 1" } else { b"lacks 1" })?;
-    append_line(out, hub.meta().secret().unwrap_or("no secret").as_bytes())
-}
-
-/// The texts that are queued and the other answers, each in a line.
-fn told<L: Ledger>(
+fn act_all<L: Ledger>(
     alloc: Global,
-    metadata: &str,
-    acts: &[Act<'_>],
     blank: Blank,
-) -> Result<Vec<u8>, NoMemory>
-    requires few { length acts.now ≤ 100 }
+    acts: &[Act<'_>],
+    out: &mut Vec<u8>,
+) -> Result<(), NoMemory>
     requires name { blank.name ≡ L.name }
     requires parts { blank.parts ≡ L.parts }
     requires some { 0 < blank.parts }
 {
     let mut steps = Steps::<L>::new(blank);
+    let mut hub = new_hub(alloc)?;
+    for act in acts {
+        act_on(alloc, &mut hub, act, &mut steps, out)?;
+    }
+    Ok(())
+}
+
+/// Whether these acts are answered by these lines.
+fn answers(alloc: Global, acts: &[Act<'_>], expected: &str) -> Result<bool, Fail> {
     let mut out = Vec::new(alloc);
-    let mut hub = hub_on(alloc, metadata)?;
-    act_all(alloc, &mut hub, acts, &mut steps, &mut out)?;
-    describe(&hub, &mut out)?;
-    Ok(out)
-}
-
-const INIT: &str = "{\"type\":\"connection_init\"}";
-
-const SUBSCRIBE: &str =
-    "{\"type\":\"subscribe\",\"id\":\"a\",\"payload\":{\"query\":\"subscription { user { id name } }\"}}";
-
-const ANN: &str = "[{\"insert\":\"user\",\"row\":{\"id\":1,\"name\":\"Ann\"}}]";
-
-const BO: &str = "[{\"update\":\"user\",\"key\":{\"id\":1},\"set\":{\"name\":\"Bo\"}}]";
-
-const BACK: &str = "[{\"update\":\"user\",\"key\":{\"id\":1},\"set\":{\"name\":\"Ann\"}}]";
-
-/// Users with an id, which is the key, and a name or none.
-const USERS: &str = "version = 1
-[[tables]]
-name = \"user\"
-key = [\"id\"]
-columns = [{ name = \"id\", type = \"int\" }, { name = \"name\", type = \"text\", nullable = true }]
-";
-
-fn changes<L: Ledger>(alloc: Global, blank: Blank) -> Result<Vec<u8>, NoMemory>
-    requires name { blank.name ≡ L.name }
-    requires parts { blank.parts ≡ L.parts }
-    requires some { 0 < blank.parts }
-{
-    let acts = [
-        Act::Open(1),
-        Act::Say(1, INIT),
-        Act::Say(1, SUBSCRIBE),
-        Act::Poll,
-        Act::Commit(ANN),
-        Act::Poll,
-        Act::Commit(BO),
-        Act::Commit(BACK),
-        Act::Poll,
-    ];
-    told::<L>(alloc, USERS, &acts, blank)
+    act_all::<Brand>(alloc, Blank::new(1), acts, &mut out)?;
+    Ok(out.as_slice() == expected.as_bytes())
 }
 
 #[test]
-fn tells_the_first_result_and_then_each_change(rt: HostRuntime) -> Result<(), Fail> {
-    let out = changes::<Brand>(rt.alloc(), Blank::new(1))?;
-    let want = b"{\"type\":\"connection_ack\"}
-{\"type\":\"next\",\"id\":\"a\",\"payload\":{\"data\":{\"user\":[]}}}
-committed
-{\"type\":\"next\",\"id\":\"a\",\"payload\":{\"data\":{\"user\":[{\"id\":1,\"name\":\"Ann\"}]}}}
-committed
-committed
-knows 1
-no secret
-";
-    assert_eq!(rt; out.as_slice(), want.as_slice());
-    Ok(())
-}
-
-/// Users of whom there may be one, and whose names are unique.
-const ONE_USER: &str = "version = 1
-[[tables]]
-name = \"user\"
-key = [\"id\"]
-columns = [{ name = \"id\", type = \"int\" }, { name = \"name\", type = \"text\", nullable = true }]
-unique = [\"name\"]
-max_rows = 1
-";
-
-const NAME_TAKEN: &str = "[{\"insert\":\"user\",\"row\":{\"id\":2,\"name\":\"Ann\"}}]";
-
-const NO_ID: &str =
-    "[{\"delete\":\"user\",\"key\":{\"id\":1}},{\"insert\":\"user\",\"row\":{\"name\":\"B\"}}]";
-
-const NO_USER: &str = "[{\"update\":\"user\",\"key\":{\"id\":3},\"set\":{}}]";
-
-fn refusals<L: Ledger>(alloc: Global, blank: Blank) -> Result<Vec<u8>, NoMemory>
-    requires name { blank.name ≡ L.name }
-    requires parts { blank.parts ≡ L.parts }
-    requires some { 0 < blank.parts }
-{
+fn connections_are_known_until_they_go(rt: HostRuntime) -> Result<(), Fail> {
     let acts = [
+        Act::Gone(1),
         Act::Open(1),
+        Act::Open(1),
+        Act::Drain(1),
+        Act::Gone(1),
+        Act::Drain(1),
         Act::Say(1, INIT),
-        Act::Say(1, SUBSCRIBE),
-        Act::Commit(ANN),
-        Act::Commit(NAME_TAKEN),
-        Act::Commit(NO_ID),
-        Act::Commit(NO_USER),
-        Act::Poll,
+        Act::Binary(1),
     ];
-    told::<L>(alloc, ONE_USER, &acts, blank)
+    let expected = "unknown\ndid\nknown\nempty\ndid\nunknown\nunknown\nunknown\n";
+    assert!(rt; answers(rt.alloc(), &acts, expected)?);
+    Ok(())
 }
 
 #[test]
-fn changes_nothing_by_a_refused_transaction(rt: HostRuntime) -> Result<(), Fail> {
-    let out = refusals::<Brand>(rt.alloc(), Blank::new(1))?;
-    let want = b"{\"type\":\"connection_ack\"}
-committed
-UniqueTaken
-NullGiven
-NoRow
-{\"type\":\"next\",\"id\":\"a\",\"payload\":{\"data\":{\"user\":[{\"id\":1,\"name\":\"Ann\"}]}}}
-knows 1
-no secret
-";
-    assert_eq!(rt; out.as_slice(), want.as_slice());
-    Ok(())
-}
-
-/// A table with values of four kinds.
-const KINDS: &str = "version = 1
-[[tables]]
-name = \"k\"
-key = [\"id\"]
-columns = [{ name = \"id\", type = \"bigint\" }, { name = \"body\", type = \"text\" }, { name = \"b\", type = \"boolean\", nullable = true }, { name = \"u\", type = \"uuid\", nullable = true }]
-";
-
-const OF_EACH_KIND: &str =
-    "{\"type\":\"subscribe\",\"id\":\"a\",\"payload\":{\"query\":\"subscription { k { id body b u } }\"}}";
-
-const ENDS: &str =
-    "[{\"insert\":\"k\",\"row\":{\"id\":9223372036854775807,\"body\":\"\\\"\\u0001\",\"b\":true}},{\"insert\":\"k\",\"row\":{\"id\":-9223372036854775808,\"body\":\"\",\"u\":\"67E55044-10B1-426F-9247-BB680E5FE0C8\"}}]";
-
-fn kinds<L: Ledger>(alloc: Global, blank: Blank) -> Result<Vec<u8>, NoMemory>
-    requires name { blank.name ≡ L.name }
-    requires parts { blank.parts ≡ L.parts }
-    requires some { 0 < blank.parts }
-{
+fn a_timeout_closes_a_fresh_connection_alone(rt: HostRuntime) -> Result<(), Fail> {
     let acts = [
-        Act::Open(1),
-        Act::Say(1, INIT),
-        Act::Say(1, OF_EACH_KIND),
-        Act::Commit(ENDS),
-        Act::Poll,
-    ];
-    told::<L>(alloc, KINDS, &acts, blank)
-}
-
-#[test]
-fn shows_values_of_each_kind(rt: HostRuntime) -> Result<(), Fail> {
-    let out = kinds::<Brand>(rt.alloc(), Blank::new(1))?;
-    let want = b"{\"type\":\"connection_ack\"}
-committed
-{\"type\":\"next\",\"id\":\"a\",\"payload\":{\"data\":{\"k\":[{\"id\":-9223372036854775808,\"body\":\"\",\"b\":null,\"u\":\"67e55044-10b1-426f-9247-bb680e5fe0c8\"},{\"id\":9223372036854775807,\"body\":\"\\\"\\u0001\",\"b\":true,\"u\":null}]}}}
-knows 1
-no secret
-";
-    assert_eq!(rt; out.as_slice(), want.as_slice());
-    Ok(())
-}
-
-const SECRET: &str = "version = 1
-admin_secret = \"s\"
-tables = []
-";
-
-/// Where a secret is configured no client is let in so far.
-fn connections<L: Ledger>(alloc: Global, blank: Blank) -> Result<Vec<u8>, NoMemory>
-    requires name { blank.name ≡ L.name }
-    requires parts { blank.parts ≡ L.parts }
-    requires some { 0 < blank.parts }
-{
-    let acts = [
-        Act::Say(1, INIT),
-        Act::Open(1),
+        Act::Timeout(1),
         Act::Open(1),
         Act::Open(2),
-        Act::Say(2, "hello"),
-        Act::Say(1, "hello"),
-        Act::Say(1, INIT),
+        Act::Timeout(1),
+        Act::Timeout(1),
+        Act::Drain(1),
+        Act::Say(2, INIT),
+        Act::Timeout(2),
+        Act::Drain(2),
+        Act::Drain(2),
     ];
-    told::<L>(alloc, SECRET, &acts, blank)
+    let expected = r#"unknown
+did
+did
+closed 4408
+did
+done 4408
+{"type":"connection_ack"}
+did
+did
+{"type":"connection_ack"}
+empty
+"#;
+    assert!(rt; answers(rt.alloc(), &acts, expected)?);
+    Ok(())
 }
 
 #[test]
-fn knows_its_connections(rt: HostRuntime) -> Result<(), Fail> {
-    let out = connections::<Brand>(rt.alloc(), Blank::new(1))?;
-    let want = b"unknown
-known
-unbuilt
-unknown
-unbuilt
-unbuilt
-knows 1
-s
-";
-    assert_eq!(rt; out.as_slice(), want.as_slice());
+fn a_closed_connection_gives_what_was_queued(rt: HostRuntime) -> Result<(), Fail> {
+    let acts = [
+        Act::Open(1),
+        Act::Say(1, PING),
+        Act::Say(1, PING),
+        Act::Binary(1),
+        Act::Drain(1),
+        Act::Drain(1),
+        Act::Drain(1),
+        Act::Drain(1),
+    ];
+    let expected = r#"did
+{"type":"pong"}
+did
+{"type":"pong"}
+did
+closed 4400
+{"type":"pong"}
+{"type":"pong"}
+done 4400
+done 4400
+"#;
+    assert!(rt; answers(rt.alloc(), &acts, expected)?);
+    Ok(())
+}
+
+#[test]
+fn accepted_transactions_are_counted(rt: HostRuntime) -> Result<(), Fail> {
+    let acts = [
+        Act::Commit(INSERT),
+        Act::Commit(INSERT),
+        Act::Commit(r#"[{"delete":"user","key":{"id":1}}]"#),
+        Act::Skip,
+        Act::Report,
+    ];
+    let expected = "committed 1\nkey taken\ncommitted 2\n0 0 0 0 2\n";
+    assert!(rt; answers(rt.alloc(), &acts, expected)?);
+    Ok(())
+}
+
+#[test]
+fn abandoned_members_are_due_again(rt: HostRuntime) -> Result<(), Fail> {
+    let acts = [
+        Act::Open(1),
+        Act::Say(1, INIT),
+        Act::Say(1, SUBSCRIBE),
+        Act::Take,
+        Act::Tick,
+        Act::Take,
+        Act::Tick,
+        Act::Report,
+        Act::Abandon(2),
+        Act::Abandon(1),
+        Act::Abandon(1),
+        Act::Report,
+        Act::Take,
+    ];
+    let expected = r#"did
+{"type":"connection_ack"}
+did
+did
+nobody
+due 1
+job 1
+due 0
+1 1 0 1 0
+not open
+abandoned
+not open
+1 1 1 0 0
+job 2
+"#;
+    assert!(rt; answers(rt.alloc(), &acts, expected)?);
+    Ok(())
+}
+
+#[test]
+fn ended_members_are_kept_while_their_job_is_open(rt: HostRuntime) -> Result<(), Fail> {
+    let acts = [
+        Act::Open(1),
+        Act::Say(1, INIT),
+        Act::Say(1, SUBSCRIBE),
+        Act::Tick,
+        Act::Take,
+        Act::Say(1, COMPLETE),
+        Act::Say(1, SUBSCRIBE),
+        Act::Tick,
+        Act::Gone(1),
+        Act::Abandon(1),
+        Act::Tick,
+        Act::Report,
+    ];
+    let expected = r#"did
+{"type":"connection_ack"}
+did
+did
+due 1
+job 1
+did
+did
+due 0
+did
+abandoned
+due 0
+0 0 0 0 0
+"#;
+    assert!(rt; answers(rt.alloc(), &acts, expected)?);
+    Ok(())
+}
+
+#[test]
+fn a_new_hub_has_its_metadata(rt: HostRuntime) -> Result<(), Fail> {
+    let hub = new_hub(rt.alloc())?;
+    assert_eq!(rt; hub.events(), 0);
+    assert_eq!(rt; hub.due(), 0);
+    assert!(rt; !hub.knows(1));
+    assert_eq!(rt; hub.meta().catalog().tables.as_slice().len(), 1);
     Ok(())
 }

@@ -3,10 +3,9 @@ use Rattle.std.specs.List.{position_or_len, list_any, starts_with, before_first,
 use Rattle.std.specs.Str.{is_utf8, IsCharBoundary}
 use Rattle.std.specs.Str.Pattern.{FindsTextPrefix, StripsPrefix}
 use Rattle.std.proofs.lemmas.Str.Pattern.{starts_text}
-use Rattle.std.proofs.lemmas.Bool.{cases_Bool}
+use Rattle.std.proofs.lemmas.Bool.{cases_Bool, ne_eqb}
 use Rattle.std.proofs.lemmas.Str.{IsUtf8-from_is_utf8}
-use Rattle.model.specs.Script.{Line, Passed, Receive, read_line, read_form, read_number, of_text, is_space}
-use Rattle.script_text.proofs.Choices.{differs}
+use Rattle.machine.specs.Lines.{Line, Passed, Receive, read_line, read_form, read_number, of_text, is_space}
 
 -- a line that isn't empty
 pub read_line-cons : (text : List ℕ) → 0 < length text → read_line text ≡ (if get_or text 0 0 == 35 then Some Passed else (if is_utf8 text then read_form text else None))
@@ -16,7 +15,7 @@ read_line-cons (b ∷ bs) h = refl
 -- a line that is no comment
 pub read_line-other : (text : List ℕ) (b : Bool) → 0 < length text → (get_or text 0 0 ≡ 35 → ⊥) → is_utf8 text ≡ b → read_line text ≡ (if b then read_form text else None)
 read_line-other text b h k u =
-    read_line-cons text h ∙ ap (λ c. if c then Some Passed else (if is_utf8 text then read_form text else None)) (differs (get_or text 0 0) 35 k) ∙ ap (λ c. if c then read_form text else None) u
+    read_line-cons text h ∙ ap (λ c. if c then Some Passed else (if is_utf8 text then read_form text else None)) (ne_eqb (get_or text 0 0) 35 k) ∙ ap (λ c. if c then read_form text else None) u
 
 -- `strip_prefix` at a text, in the words of lists
 pub stripped : (start text : List ℕ) (r : Option (Bor (List ℕ))) → MatchOption r (FindsTextPrefix start text None) (λ x. StripsPrefix (FindsTextPrefix start) text x.now) → MatchOption r (starts_with ◌==◌ text start ≡ false) (λ rest. (starts_with ◌==◌ text start ≡ true) × (rest.now ≡ drop (length start) text))

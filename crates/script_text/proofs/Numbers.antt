@@ -1,7 +1,7 @@
 use Rattle.std.proofs.Common.{◌≡◌, ℕ, ◌+◌, ◌-◌, ◌*◌, ◌<◌, ◌≤◌, List, [], ◌∷◌, None, length, drop, get_or, drop-cons, ap, sym, ◌∙◌, subst, add-one, arith}
 use Rattle.std.proofs.lemmas.Bool.Decides.{nat_tests}
 use Rattle.std.specs.List.{fold}
-use Rattle.model.specs.Values.{number_of}
+use Rattle.machine.specs.Lines.{number_of}
 use Rattle.script_text.specs.Numbers.{small_number}
 
 abbrev pub further : ℕ → ℕ → ℕ

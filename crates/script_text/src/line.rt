@@ -1,7 +1,7 @@
 ghost use Rattle.std.specs.Prelude.{◌≡◌, ◌==◌, true, false, length, drop, MatchOption};
 ghost use Rattle.std.specs.List.{starts_with};
 ghost use Rattle.std.specs.Option.{option_map};
-ghost use Rattle.model.specs.Script.{read_line, read_form, of_text, read_connection, read_job, read_word};
+ghost use Rattle.machine.specs.Lines.{read_line, read_form, of_text, read_connection, read_job, read_word};
 ghost use Rattle.script_text.specs.Said.{line_of};
 
 use crate::number::{read_connection, read_job};

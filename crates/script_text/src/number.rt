@@ -1,5 +1,5 @@
 ghost use Rattle.std.specs.Prelude.{◌≡◌, ◌^◌, ◌<◌, ◌≤◌};
-ghost use Rattle.model.specs.Script.{read_number};
+ghost use Rattle.machine.specs.Lines.{read_number};
 ghost use Rattle.script_text.specs.Numbers.{small_number};
 
 use itoa::Buffer;

@@ -1,12 +1,13 @@
 pub mod Advances
 pub mod Events
 pub mod Feeds
+pub mod TakenJobs
 pub mod Known
 pub mod Lines
 pub mod Machine
 pub mod Outcomes
+pub mod Pieces
 pub mod Polls
 pub mod Rans
 pub mod Readers
-pub mod Pieces
 pub mod Written

@@ -1,7 +1,7 @@
 -- Laws of lines.
 use Rattle.std.proofs.Common.{◌≡◌, ◌≢◌, ◌∙◌, ◌≤◌, ◌+◌, arith, sym, ap, subst, refl, ℕ, Bool, true, false, ◌==◌, List, [], ◌∷◌, ◌++◌, length, append-nil}
 use Rattle.std.proofs.lemmas.Bool.Decides.{nat_tests}
-use Rattle.model.specs.Script.{Lines, onto_line, lines}
+use Rattle.machine.specs.Lines.{Lines, onto_line, lines}
 
 -- the parts of a text whose front has the parts s, and which goes on by b
 abbrev pub onto : Lines → List ℕ → Lines

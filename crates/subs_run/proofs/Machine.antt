@@ -1,144 +1,226 @@
--- How many subscriptions an event adds: one at most.
-use Rattle.std.proofs.Common.{◌≡◌, ◌∙◌, ◌≤◌, ◌+◌, arith, refl, ℕ, Result, Ok, Err, Bool, true, false, if◌then◌else◌, Option, Some, None, List, [], ◌∷◌, length, length-append, filter}
-use Rattle.std.specs.Prelude.{find, nat_lt, ◌&&◌, not}
-use Rattle.std.specs.List.{list_any}
+-- What events do to the number of subscriptions and to the open jobs.
+use Rattle.std.proofs.Common.{◌≡◌, ◌≢◌, ◌∙◌, ◌≤◌, ◌<◌, ◌+◌, ◌==◌, ◌||◌, arith, sym, ap, subst, refl, inl, ℕ, Bool, true, false, not, Option, Some, None, List, [], ◌∷◌, ◌++◌, length, length-append, map, filter}
+use Rattle.std.specs.Prelude.{find, ◌&&◌}
+use Rattle.std.specs.List.{list_any, AllByRecursion}
 use Rattle.std.proofs.lemmas.List.{length-map}
 use Rattle.std.proofs.lemmas.List.Filters.{length-filter_both}
-use Rattle.data_model.specs.Rows.{Database}
-use Rattle.data_model.specs.Transactions.{apply}
-use Rattle.data_model.specs.declared.transaction.TxChange.{TxChange}
-use Rattle.data_model.specs.declared.transaction.TxFault.{TxFault}
+use Rattle.std.proofs.lemmas.Bool.{eq-eqb, eqb-true}
 use Rattle.role_model.specs.declared.metadata.Metadata.{Metadata}
-use Rattle.role_model.specs.declared.session.Session.{Session}
-use Rattle.role_model.specs.declared.session.Identity.{Identity}
-use Rattle.role_model.specs.declared.session.Identity.TheVariants as identity
-use Rattle.role_model.specs.Sessions.{identity_of}
-use Rattle.model.specs.Messages.{Message, Init, Subscribe, Complete, Ping, Pong, Bad, Request, CloseReason, exists_reason}
-use Rattle.model.specs.Queries.{Live, Once, Stream, QueryKind, result}
-use Rattle.model.specs.Queries as queries
-use Rattle.model.specs.Admission.{Admission, Admits, Refuses, Unread, admits}
-use Rattle.model.specs.State.{State, Connect, Receive, Commit, Tick, Take, Publish, Connection, Phase, Fresh, Acknowledged, Closed, Subscription, Member, Job, Effect, Did, with_reply}
-use Rattle.model.specs.Connections.{connection_at, connect, on_known, receive, receive_fresh, receive_acknowledged, initialised, subscribe, subscribed, close_connection, ended_if, is_of, is_live_id}
-use Rattle.model.specs.Batches.{take_from, job_at, is_due, is_busy, is_subscription, subscription_at}
-use Rattle.model.specs.Publication.{at_subscription, is_new, remembers, moves_to, publish_live, publish_once, publish_stream, publish_kind, publish_member, publish_members, database_of, publish}
-use Rattle.model.specs.Run.{commit, database_now, happens}
+use Rattle.machine.specs.State.{State, Event, Tick, Take, Publish, Abandon, Reply, Did, Abandoned, Published, Taken, Nobody, Ticked, Subscription, Job, Step}
+use Rattle.machine.specs.Batches.{take_from, taken_with, next_job, members_of, batch, is_subscription, is_due, is_busy, is_job, job_at, without_job, abandon, idle}
+use Rattle.machine.specs.Publication.{publish, database_of}
+use Rattle.machine.specs.Run.{happens, run}
+use Rattle.hub_model.proofs.Items.{found_none, filter_all}
+use Rattle.run_laws.specs.Takings.{IsOfLive}
+use Rattle.run_laws.proofs.Among.{Among, found_among, among_any}
+use Rattle.run_laws.proofs.Cases.{by_event}
+use Rattle.run_laws.proofs.Following.{IsNewer, event_proceeds, members_follow}
+use Rattle.run_laws.proofs.Order.{published_jobs}
+use Rattle.run_laws.proofs.Ascending.{due_ascend}
 
 abbrev pub subs : State → ℕ
 subs s = length s.subscriptions
 
-close : (number : ℕ) (reason : CloseReason) (s : State) → subs (close_connection number reason s).state ≡ subs s
-close number reason s = length-map s.subscriptions (ended_if (is_of number))
+-- ---- subscriptions
 
-initial : (number : ℕ) (s : State) (i : Identity) → subs (initialised number s i).state ≤ subs s + 1
-initial number s (identity.Allowed session) = omega arith
-initial number s identity.Forbidden = omega (arith, length-map s.subscriptions (ended_if (is_of number)))
+one_newer : (n : ℕ) (more : List Subscription) → IsNewer n more → length more ≤ 1
+one_newer n [] h = omega arith
+one_newer n (x ∷ []) h = omega arith
+one_newer n (x ∷ y ∷ more) h = absurd h
 
-fresh : (meta : Metadata) (c : ℕ) (m : Message) (s : State) → subs (receive_fresh meta c m s).state ≤ subs s + 1
-fresh meta c (Init payload) s = initial c s (identity_of meta payload)
-fresh meta c (Subscribe id request) s = omega (arith, length-map s.subscriptions (ended_if (is_of c)))
-fresh meta c (Complete id) s = omega arith
-fresh meta c Ping s = omega arith
-fresh meta c Pong s = omega arith
-fresh meta c Bad s = omega (arith, length-map s.subscriptions (ended_if (is_of c)))
+-- an event adds one subscription at most
+pub subs-more : (meta : Metadata) (s : State) (e : Event) → subs (happens meta s e).state ≤ subs s + 1
+subs-more meta s e =
+    let p = event_proceeds meta s e in
+    omega (
+      arith,
+      ap (λ (l : List Subscription). length l) p.is,
+      length-append (map p.change s.subscriptions) p.more,
+      length-map s.subscriptions p.change,
+      one_newer (length s.subscriptions) p.more p.newer,
+    )
 
-admitted : (c : ℕ) (id : List ℕ) (s : State) (a : Admission) → subs (subscribed c id s a).state ≤ subs s + 1
-admitted c id s (Admits query cursor) = omega (arith, length-append {A = Subscription})
-admitted c id s (Refuses fault) = omega arith
-admitted c id s Unread = omega arith
+-- replies of events that add none
+abbrev pub AddsNone : Reply → Type 0
+AddsNone Did = ⊥
+AddsNone _ = Unit {0}
 
-if_subs : (b : Bool) (x y : Effect) (n : ℕ) → subs x.state ≤ n → subs y.state ≤ n → subs (if b then x else y).state ≤ n
-if_subs true x y n h k = h
-if_subs false x y n h k = k
+pub subs-same : (meta : Metadata) (s : State) (e : Event) → AddsNone (happens meta s e).reply →
+    subs (happens meta s e).state ≡ subs s
+subs-same meta s e =
+    by_event meta s e (λ t. AddsNone t.reply → subs t.state ≡ subs s)
+    (record {
+      still = λ reply none adds. refl;
+      opens = λ number new adds. refl;
+      closes = λ number reason adds. absurd adds;
+      acknowledges = λ number session adds. absurd adds;
+      pongs = λ number adds. absurd adds;
+      refuses = λ number id fault adds. absurd adds;
+      joins = λ number id a j adds. absurd adds;
+      completes = λ number id adds. absurd adds;
+      goes = λ number adds. absurd adds;
+      commits = λ tx db ok adds. refl;
+      ticks = λ adds. refl;
+      takes = λ first found adds. refl;
+      abandons = λ number job at adds. refl;
+      drains = λ number rest text adds. refl;
+    })
+    (λ number job at adds.
+    let f = members_follow meta (database_of meta s job) job.members s in
+    ap (λ (l : List Subscription). length l) f.is ∙ length-map s.subscriptions f.change)
 
-asked : (meta : Metadata) (session : Session) (c : ℕ) (id : List ℕ) (request : Request) (s : State) → subs (subscribe meta session c id request s).state ≤ subs s + 1
-asked meta session c id request s =
-    if_subs (list_any (is_live_id c id) s.subscriptions) (close_connection c (exists_reason id) s) (subscribed c id s (admits meta session request)) (subs s + 1)
-    (omega (arith, length-map s.subscriptions (ended_if (is_of c)))) (admitted c id s (admits meta session request))
+-- ---- jobs
 
-acknowledged : (meta : Metadata) (session : Session) (c : ℕ) (m : Message) (s : State) → subs (receive_acknowledged meta session c m s).state ≤ subs s + 1
-acknowledged meta session c (Init payload) s = omega (arith, length-map s.subscriptions (ended_if (is_of c)))
-acknowledged meta session c (Subscribe id request) s = asked meta session c id request s
-acknowledged meta session c (Complete id) s = omega (arith, length-map s.subscriptions (ended_if (is_live_id c id)))
-acknowledged meta session c Ping s = omega arith
-acknowledged meta session c Pong s = omega arith
-acknowledged meta session c Bad s = omega (arith, length-map s.subscriptions (ended_if (is_of c)))
+-- the replies of events that neither open nor close a job
+abbrev pub IsQuiet : Reply → Type 0
+IsQuiet (Taken job) = ⊥
+IsQuiet Abandoned = ⊥
+IsQuiet (Published version) = ⊥
+IsQuiet _ = Unit {0}
 
-received : (meta : Metadata) (c : ℕ) (m : Message) (s : State) (p : Phase) → subs (receive meta c m s p).state ≤ subs s + 1
-received meta c m s Fresh = fresh meta c m s
-received meta c m s (Acknowledged session) = acknowledged meta session c m s
-received meta c m s (Closed reason) = omega arith
+pub jobs-same : (meta : Metadata) (s : State) (e : Event) → IsQuiet (happens meta s e).reply →
+    (happens meta s e).state.jobs ≡ s.jobs
+jobs-same meta s e =
+    by_event meta s e (λ t. IsQuiet t.reply → t.state.jobs ≡ s.jobs)
+    (record {
+      still = λ reply none quiet. refl;
+      opens = λ number new quiet. refl;
+      closes = λ number reason quiet. refl;
+      acknowledges = λ number session quiet. refl;
+      pongs = λ number quiet. refl;
+      refuses = λ number id fault quiet. refl;
+      joins = λ number id a j quiet. refl;
+      completes = λ number id quiet. refl;
+      goes = λ number quiet. refl;
+      commits = λ tx db ok quiet. refl;
+      ticks = λ quiet. refl;
+      takes = λ first found quiet. absurd quiet;
+      abandons = λ number job at quiet. absurd quiet;
+      drains = λ number rest text quiet. refl;
+    })
+    (λ number job at quiet. absurd quiet)
 
-on_message : (meta : Metadata) (c : ℕ) (m : Message) (s : State) (o : Option Connection) → subs (on_known (λ known. with_reply Did (receive meta c m s known.phase)) s o).state ≤ subs s + 1
-on_message meta c m s (Some known) = received meta c m s known.phase
-on_message meta c m s None = omega arith
+-- no job of this number
+unnamed : (number : ℕ) (jobs : List Job) → job_at number jobs ≡ None → without_job number jobs ≡ jobs
+unnamed number jobs e =
+    filter_all (λ job. not (is_job number job)) jobs
+    (λ job a. ap not (found_none (is_job number) jobs e job a))
 
-pub subs-receive : (meta : Metadata) (s : State) (c : ℕ) (m : Message) → subs (happens meta s (Receive c m)).state ≤ subs s + 1
-subs-receive meta s c m = on_message meta c m s (connection_at c s)
+publish_leaves : (meta : Metadata) (number : ℕ) (s : State) (o : Option Job) → job_at number s.jobs ≡ o →
+    (publish meta number s o).state.jobs ≡ without_job number s.jobs
+publish_leaves meta number s (Some job) e = published_jobs meta number s job
+publish_leaves meta number s None e = sym (unnamed number s.jobs e)
 
-on_connect : (c : ℕ) (s : State) (o : Option Connection) → subs (connect c s o).state ≤ subs s + 1
-on_connect c s (Some known) = omega arith
-on_connect c s None = omega arith
+pub jobs-published : (meta : Metadata) (s : State) (number : ℕ) →
+    (happens meta s (Publish number)).state.jobs ≡ without_job number s.jobs
+jobs-published meta s number = publish_leaves meta number s (job_at number s.jobs) refl
 
-pub subs-connect : (meta : Metadata) (s : State) (c : ℕ) → subs (happens meta s (Connect c)).state ≤ subs s + 1
-subs-connect meta s c = on_connect c s (connection_at c s)
+abandon_leaves : (number : ℕ) (s : State) (o : Option Job) → job_at number s.jobs ≡ o →
+    (abandon number s o).state.jobs ≡ without_job number s.jobs
+abandon_leaves number s (Some job) e = refl
+abandon_leaves number s None e = sym (unnamed number s.jobs e)
 
-on_commit : (tx : List TxChange) (s : State) (a : Result Database TxFault) → subs (commit tx s a).state ≤ subs s + 1
-on_commit tx s (Ok after) = omega arith
-on_commit tx s (Err fault) = omega arith
+pub jobs-abandoned : (meta : Metadata) (s : State) (number : ℕ) →
+    (happens meta s (Abandon number)).state.jobs ≡ without_job number s.jobs
+jobs-abandoned meta s number = abandon_leaves number s (job_at number s.jobs) refl
 
-pub subs-commit : (meta : Metadata) (s : State) (tx : List TxChange) → subs (happens meta s (Commit tx)).state ≤ subs s + 1
-subs-commit meta s tx = on_commit tx s (apply meta.catalog (database_now meta s) tx)
+-- a job that isn't open changes nothing
+publish_none : (meta : Metadata) (number : ℕ) (s : State) (o : Option Job) → o ≡ None →
+    publish meta number s o ≡ publish meta number s None
+publish_none meta number s o e = ap (λ (x : Option Job). publish meta number s x) e
 
-on_take : (meta : Metadata) (s : State) (o : Option Subscription) → subs (take_from meta s o).state ≡ subs s
-on_take meta s None = refl
-on_take meta s (Some first) = refl
+pub published-none : (meta : Metadata) (s : State) (number : ℕ) → job_at number s.jobs ≡ None →
+    happens meta s (Publish number) ≡ publish meta number s None
+published-none meta s number e = publish_none meta number s (job_at number s.jobs) e
 
-pub subs-take : (meta : Metadata) (s : State) → subs (happens meta s Take).state ≡ subs s
-subs-take meta s = on_take meta s (find (is_due s.due) s.subscriptions)
+-- what a take gives
+pub record Opens (s t : State) (job : Job) : Type 0 where
+  pub jobs : t.jobs ≡ s.jobs ++ job ∷ []
+  pub made : t.jobs_made ≡ job.number
+  pub some : 0 < length s.due
 
--- A publication changes subscriptions, and adds none.
-if_same : (b : Bool) (x y : Effect) (n : ℕ) → subs x.state ≡ n → subs y.state ≡ n → subs (if b then x else y).state ≡ n
-if_same true x y n h k = h
-if_same false x y n h k = k
+some_due : (due : List ℕ) (x : Subscription) → is_due due x ≡ true → 0 < length due
+some_due [] x e = absurd (cc)
+some_due (d ∷ due) x e = omega arith
 
-on_live : (sub : Subscription) (r : queries.Result) (s : State) → subs (publish_live sub r s).state ≡ subs s
-on_live sub r s = if_same (is_new sub.last r.text) _ _ (subs s) (length-map s.subscriptions (at_subscription sub.number (remembers r.text))) refl
+taken_opens : (s : State) (own job : Job) → own.number ≡ s.jobs_made + 1 → 0 < length s.due → Taken own ≡ Taken job →
+    Opens s (taken_with s own).state job
+taken_opens s own job number some e =
+    let same : own ≡ job = cc in
+    record {
+      jobs = ap (λ (j : Job). s.jobs ++ j ∷ []) same;
+      made = sym number ∙ ap (λ (j : Job). j.number) same;
+      some = some;
+    }
 
-on_once : (sub : Subscription) (r : queries.Result) (s : State) → subs (publish_once sub r s).state ≡ subs s
-on_once sub r s = length-map s.subscriptions (ended_if (is_subscription sub.number))
+take_opens : (meta : Metadata) (s : State) (o : Option Subscription) (job : Job) →
+    find (is_due s.due) s.subscriptions ≡ o → (take_from meta s o).reply ≡ Taken job →
+    Opens s (take_from meta s o).state job
+take_opens meta s (Some first) job at e =
+    taken_opens s (next_job s (members_of (batch meta.batch_size s.due s.subscriptions first) s.subscriptions)) job refl
+    (some_due s.due first (found_among (is_due s.due) s.subscriptions first at).1) e
+take_opens meta s None job at e = absurd (cc)
 
-on_stream : (sub : Subscription) (r : queries.Result) (s : State) → subs (publish_stream sub r s).state ≡ subs s
-on_stream sub r s = if_same (nat_lt 0 r.rows) _ _ (subs s) (length-map s.subscriptions (at_subscription sub.number (moves_to r.last))) refl
+pub taken : (meta : Metadata) (s : State) (job : Job) → (happens meta s Take).reply ≡ Taken job →
+    Opens s (happens meta s Take).state job
+taken meta s job e = take_opens meta s (find (is_due s.due) s.subscriptions) job refl e
 
-on_kind : (k : QueryKind) (sub : Subscription) (r : queries.Result) (s : State) → subs (publish_kind k sub r s).state ≡ subs s
-on_kind Live sub r s = on_live sub r s
-on_kind Once sub r s = on_once sub r s
-on_kind Stream sub r s = on_stream sub r s
+-- nobody is due where a take gives none
 
-on_member : (meta : Metadata) (db : Database) (s : State) (o : Option Subscription) → subs (publish_member meta db s o).state ≡ subs s
-on_member meta db s (Some sub) = if_same sub.live _ _ (subs s) (on_kind sub.query.kind sub (result meta sub.query sub.cursor db) s) refl
-on_member meta db s None = refl
+not_taken : (meta : Metadata) (s : State) (o : Option Subscription) → (take_from meta s o).reply ≡ Nobody →
+    (o ≡ None) × ((take_from meta s o).state ≡ s)
+not_taken meta s (Some first) e = absurd (cc)
+not_taken meta s None e = (refl, refl)
 
-on_members : (meta : Metadata) (db : Database) (ms : List Member) (s : State) → subs (publish_members meta db ms s).state ≡ subs s
-on_members meta db [] s = refl
-on_members meta db (m ∷ ms) s =
-    on_members meta db ms (publish_member meta db s (subscription_at m.subscription s.subscriptions)).state ∙ on_member meta db s (subscription_at m.subscription s.subscriptions)
+both_tests : (b : Bool) → b ≡ true → b ≡ false → ⊥
+both_tests b e f = cc
 
-on_publish : (meta : Metadata) (n : ℕ) (s : State) (o : Option Job) → subs (publish meta n s o).state ≡ subs s
-on_publish meta n s (Some job) = on_members meta (database_of meta s job) job.members s
-on_publish meta n s None = refl
+none_due : (s : State) (due : List ℕ) → AllByRecursion (IsOfLive s) due → find (is_due due) s.subscriptions ≡ None →
+    due ≡ []
+none_due s [] live e = refl
+none_due s (d ∷ due) live e =
+    let first : IsOfLive s d = live.0 in
+    let there = found_among (is_subscription d) s.subscriptions first.0 first.1 in
+    let number : d ≡ first.0.number = sym (eqb-true first.0.number d there.1) in
+    absurd (both_tests (is_due (d ∷ due) first.0)
+    (among_any (λ n. n == first.0.number) d (d ∷ due) (inl refl) (eq-eqb d first.0.number number))
+    (found_none (is_due (d ∷ due)) s.subscriptions e first.0 there.0))
 
-pub subs-publish : (meta : Metadata) (s : State) (n : ℕ) → subs (happens meta s (Publish n)).state ≡ subs s
-subs-publish meta s n = on_publish meta n s (job_at n s.jobs)
+pub record IsIdle (s t : State) : Type 0 where
+  pub due : s.due ≡ []
+  pub same : t ≡ s
 
-pub subs-tick : (meta : Metadata) (s : State) → subs (happens meta s Tick).state ≡ subs s
-subs-tick meta s = refl
+pub nobody : (meta : Metadata) (h : List Event) → (happens meta (run meta h) Take).reply ≡ Nobody →
+    IsIdle (run meta h) (happens meta (run meta h) Take).state
+nobody meta h e =
+    let s : State = run meta h in
+    let n = not_taken meta s (find (is_due s.due) s.subscriptions) e in
+    record { due = none_due s s.due (due_ascend meta h).1 n.0; same = n.1 }
 
--- only subscriptions become due
+-- what a tick gives
+
 filter_le : (p : Subscription → Bool) (xs : List Subscription) → length (filter p xs) ≤ length xs
 filter_le p xs = omega (arith, length-filter_both p (λ x. not (p x)) (λ x. refl) xs)
 
-pub due-tick : (meta : Metadata) (s : State) → length (happens meta s Tick).state.due ≤ subs s
-due-tick meta s =
+the_count : (m n : ℕ) → Ticked m ≡ Ticked n → m ≡ n
+the_count m n e = cc
+
+-- only subscriptions become due
+pub record IsTicked (s t : State) (count : ℕ) : Type 0 where
+  pub due : length t.due ≡ count
+  pub few : count ≤ subs s
+
+pub ticked : (meta : Metadata) (s : State) (count : ℕ) → (happens meta s Tick).reply ≡ Ticked count →
+    IsTicked s (happens meta s Tick).state count
+ticked meta s count e =
     let waits : Subscription → Bool = λ sub. sub.live && not (is_busy s.subscriptions s.jobs sub) in
-    omega (arith, length-map (filter waits s.subscriptions) (λ (sub : Subscription). sub.number), filter_le waits s.subscriptions)
+    let many : length (idle s.subscriptions s.jobs) ≡ count = the_count (length (idle s.subscriptions s.jobs)) count e in
+    record {
+      due = many;
+      few = omega (
+        arith,
+        many,
+        length-map (filter waits s.subscriptions) (λ (sub : Subscription). sub.number),
+        filter_le waits s.subscriptions,
+      );
+    }

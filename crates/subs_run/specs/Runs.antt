@@ -1,15 +1,21 @@
 -- What a run of a script has read and written of an input. This project's own.
 use Rattle.std.specs.Prelude.{◌≡◌, ℕ, ◌<◌, ◌≤◌, ◌+◌, Option, Some, None, List, [], ◌++◌, length, take}
-use Rattle.model.specs.Script.{Reading, Heading, At, Ran, lines, run_lines, limit, outcome}
-use Rattle.model.specs.declared.script.ScriptReason.{ScriptReason}
+use Rattle.machine.specs.Messages.{Message}
+use Rattle.machine.specs.Lines.{lines}
+use Rattle.machine.specs.Script.{Reading, Heading, At, Ran, AllSay, run_lines, limit, outcome}
+use Rattle.machine.specs.declared.script.ScriptReason.{ScriptReason}
 use Rattle.outside.specs.declared.source.Got.{Got}
 use Rattle.outside.specs.declared.source.Got.TheVariants as got
 use Rattle.subs_run.specs.declared.answer.RunEnd.{RunEnd}
 use Rattle.subs_run.specs.declared.answer.RunEnd.TheVariants as run_end
 
--- the whole lines of a text, run from the start
-abbrev pub ran : List ℕ → Ran
-ran bytes = run_lines 1 (Heading []) (lines bytes).0
+-- the whole lines of a text, run from the start, where the texts of clients have these meanings
+abbrev pub ran : (List ℕ → Message) → List ℕ → Ran
+ran meant bytes = run_lines meant 1 (Heading []) (lines bytes).0
+
+-- each text of a client in a script has the meaning that it is given
+abbrev pub Reads : (List ℕ → Message) → List ℕ → Type 0
+Reads meant all = AllSay meant (outcome meant all).said
 
 -- of an input, a front was read
 pub record HasRead (all : List ℕ) (left : Option (List ℕ)) : Type 0 where
@@ -22,7 +28,13 @@ pub record HasRead (all : List ℕ) (left : Option (List ℕ)) : Type 0 where
 -- the whole input was read, and it has no fault
 pub record ReadWhole (all : List ℕ) (left : Option (List ℕ)) : Type 0 where
   pub read : left ≡ Some []
-  pub faultless : (outcome all).fault ≡ None
+  pub faultless : (meant : List ℕ → Message) → Reads meant all → (outcome meant all).fault ≡ None
+
+-- no whole line of these bytes is at fault, and the transcript of these lines was written behind w
+pub record WroteLines (meant : List ℕ → Message) (read w : List ℕ) (written : Option (List ℕ)) : Type 0 where
+  pub reading : Reading
+  pub faultless : (ran meant read).standing ≡ At reading
+  pub transcript : written ≡ Some (w ++ (ran meant read).text)
 
 -- A front of the input was read, no whole line of it is at fault, and the transcript of these lines was written
 -- behind w.
@@ -32,9 +44,7 @@ pub record WroteWholeLines (all w : List ℕ) (left written : Option (List ℕ))
   pub all_is : all ≡ read ++ rest
   pub left_is : left ≡ Some rest
   pub within : length read ≤ limit
-  pub reading : Reading
-  pub faultless : (ran read).standing ≡ At reading
-  pub transcript : written ≡ Some (w ++ (ran read).text)
+  pub ran_on : (meant : List ℕ → Message) → AllSay meant (ran meant read).said → WroteLines meant read w written
 
 -- a front of the output stands behind w
 pub record WroteFront (output w : List ℕ) (written : Option (List ℕ)) : Type 0 where

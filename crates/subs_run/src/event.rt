@@ -1,32 +1,27 @@
-ghost use Rattle.std.specs.Prelude.{◌≡◌, ◌+◌, ◌*◌, ◌^◌, ◌<◌, List, ℕ, length};
+ghost use Rattle.std.specs.Prelude.{◌≡◌, ◌+◌, ◌*◌, ◌^◌, ◌<◌, ℕ, Some, List};
 ghost use Rattle.data_model.specs.Form.{transaction};
-ghost use Rattle.model.specs.State.{Event, Connect, Commit};
-ghost use Rattle.model.specs.Run.{run};
-ghost use Rattle.model.specs.Forms.{read_message};
-ghost use Rattle.model.specs.Script.{
-  Open,
-  Poll,
-  Faulty,
-  act,
-  acts,
-  commits,
-  on_known,
-  opens,
-  read_line,
-  receives,
-  serves,
-};
-ghost use Rattle.model.specs.declared.script.ScriptReason.TheVariants.{Unbuilt};
-ghost use Rattle.hub.specs.Stands.{StandsFor};
+ghost use Rattle.machine.specs.Messages.{Message};
+ghost use Rattle.machine.specs.State as state;
+ghost use Rattle.machine.specs.State.{Event};
+ghost use Rattle.machine.specs.Run.{run};
+ghost use Rattle.machine.specs.Transcript as transcript;
+ghost use Rattle.machine.specs.Lines as lines;
+ghost use Rattle.machine.specs.Lines.{read_line};
+ghost use Rattle.machine.specs.Script as script;
+ghost use Rattle.machine.specs.Script.{AllSay, act, acts, commits, opens, said_on, serves, serves_known};
+ghost use Rattle.hub_model.specs.Stands.{StandsFor};
 ghost use Rattle.script_text.specs.Said.{line_of};
-ghost use Rattle.subs_run.specs.Events.{LineRan, IsWent};
+ghost use Rattle.subs_run.specs.Events.{HubGoesOn, HubRan, LineRan, RunsOn, Steady};
 
-use crate::line_result::LineResult;
+use crate::jobs::{run_abandon, run_publish, run_take};
+use crate::line_result::{LineResult, went};
 use crate::poll::poll;
-use hub::{CommitReply, ConnReply, Hub};
+use crate::runner::Runner;
+use hub::{CommitReply, ConnReply, DrainReply, Hub};
 use scalar_val::{NoMemory, Steps};
 use script_text::{
-    Line, ScriptReason, read_line, write_commit, write_open, write_recv, write_refused,
+    Line, ScriptReason, read_line, write_binary, write_commit, write_done, write_empty, write_gone,
+    write_open, write_recv, write_refused, write_report, write_sent, write_tick, write_timeout,
 };
 use std::alloc::Global;
 use std::sync::ledger::Ledger;
@@ -34,113 +29,171 @@ use tx_apply::{Tx, TxTextFault, read_tx};
 
 /// Runs one line behind the metadata, and appends its transcript.
 pub(crate) fn run_line<L: Ledger>(
-    hub: &mut Hub,
+    runner: &mut Runner,
     alloc: Global,
     line: &[u8],
     out: &mut Vec<u8>,
     steps: &mut Steps<L>,
 ) -> LineResult
-    requires stands { (h : List Event) × StandsFor hub.old h }
-    requires few { hub.old.events + 1 + 2 * length hub.old.subscriptions < 2 ^ 62 }
-    ensures { (h : List Event) → StandsFor hub.old h →
-        LineRan result (act hub.old.meta (run hub.old.meta h) (read_line line.now)) hub.old hub.new out.old.items
-        out.new.items }
+    requires stands { (h : List Event) × RunsOn runner.old.hub runner.old.jobs.items h }
+    requires few { runner.old.hub.events + 1 + 2 * runner.old.hub.subscribed < 2 ^ 62 }
+    ensures ran { (meant : List ℕ → Message) (h : List Event) → RunsOn runner.old.hub runner.old.jobs.items h →
+        AllSay meant (said_on (run runner.old.hub.meta h) (read_line line.now)) →
+        LineRan result (act meant runner.old.hub.meta (run runner.old.hub.meta h) (read_line line.now)) runner.old.hub
+        runner.new.hub runner.new.jobs.items out.old.items out.new.items }
+    ensures steady { Steady result runner.old.hub runner.new.hub runner.new.jobs.items }
 {
     match read_line(line) {
-        Some(line) => run_form(hub, alloc, line, out, steps),
+        Some(line) => run_form(runner, alloc, line, out, steps),
         None => LineResult::Faulty(ScriptReason::NotEvent),
     }
 }
 
-/// Runs a line of one of the forms. So far `open`, `recv`, `commit` and `poll` are built.
+/// Runs a line of one of the forms.
 fn run_form<L: Ledger>(
-    hub: &mut Hub,
+    runner: &mut Runner,
     alloc: Global,
     line: Line<'_>,
     out: &mut Vec<u8>,
     steps: &mut Steps<L>,
 ) -> LineResult
-    requires stands { (h : List Event) × StandsFor hub.old h }
-    requires few { hub.old.events + 1 + 2 * length hub.old.subscriptions < 2 ^ 62 }
-    ensures { (h : List Event) → StandsFor hub.old h →
-        LineRan result (acts hub.old.meta (run hub.old.meta h) (line_of line.entry)) hub.old hub.new out.old.items
-        out.new.items }
+    requires stands { (h : List Event) × RunsOn runner.old.hub runner.old.jobs.items h }
+    requires few { runner.old.hub.events + 1 + 2 * runner.old.hub.subscribed < 2 ^ 62 }
+    ensures ran { (meant : List ℕ → Message) (h : List Event) → RunsOn runner.old.hub runner.old.jobs.items h →
+        AllSay meant (said_on (run runner.old.hub.meta h) (Some (line_of line.entry))) →
+        LineRan result (acts meant runner.old.hub.meta (run runner.old.hub.meta h) (line_of line.entry))
+        runner.old.hub runner.new.hub runner.new.jobs.items out.old.items out.new.items }
+    ensures steady { Steady result runner.old.hub runner.new.hub runner.new.jobs.items }
 {
+    let hub = &mut runner.hub;
     match line {
         Line::Passed => LineResult::Went,
         Line::Open(conn) => run_open(hub, alloc, conn, out),
         Line::Receive { conn, text } => run_recv(hub, alloc, conn, text, out),
+        Line::Binary(conn) => run_binary(hub, alloc, conn, out),
+        Line::Timeout(conn) => run_timeout(hub, alloc, conn, out),
+        Line::Gone(conn) => run_gone(hub, alloc, conn, out),
+        Line::Drain(conn) => run_drain(hub, conn, out),
         Line::Commit(text) => run_commit(hub, alloc, text, out, steps),
-        Line::Poll => run_poll(hub, alloc, out, steps),
-        Line::Binary(conn) => unbuilt_on(hub, conn),
-        Line::Timeout(conn) => unbuilt_on(hub, conn),
-        Line::Gone(conn) => unbuilt_on(hub, conn),
-        Line::Drain(conn) => unbuilt_on(hub, conn),
-        Line::Tick => LineResult::Faulty(ScriptReason::Unbuilt),
-        Line::Take => LineResult::Faulty(ScriptReason::Unbuilt),
-        Line::Publish(_) => LineResult::Faulty(ScriptReason::Unbuilt),
-        Line::Abandon(_) => LineResult::Faulty(ScriptReason::Unbuilt),
-        Line::Report => LineResult::Faulty(ScriptReason::Unbuilt),
+        Line::Tick => run_tick(hub, out),
+        Line::Report => run_report(hub, out),
+        Line::Take => run_take(runner, alloc, out),
+        Line::Publish(number) => run_publish(runner, alloc, number, out),
+        Line::Abandon(number) => run_abandon(runner, number, out),
+        Line::Poll => run_poll(hub, alloc, out),
     }
 }
 
-/// The fault of a line on a connection whose form isn't built so far.
-fn unbuilt_on(hub: &Hub, conn: u32) -> LineResult
-    ensures { (h : List Event) (before after : List ℕ) → StandsFor hub.now h →
-        LineRan result (on_known (run hub.now.meta h) conn (Faulty Unbuilt)) hub.now hub.now before after }
-{
-    if hub.knows(conn) {
-        LineResult::Faulty(ScriptReason::Unbuilt)
-    } else {
-        LineResult::Faulty(ScriptReason::Unknown)
-    }
-}
-
-fn run_poll<L: Ledger>(
-    hub: &mut Hub,
-    alloc: Global,
-    out: &mut Vec<u8>,
-    steps: &mut Steps<L>,
-) -> LineResult
+fn run_poll(hub: &mut Hub, alloc: Global, out: &mut Vec<u8>) -> LineResult
     requires stands { (h : List Event) × StandsFor hub.old h }
-    requires few { hub.old.events + 1 + 2 * length hub.old.subscriptions < 2 ^ 62 }
+    requires few { hub.old.events + 1 + 2 * hub.old.subscribed < 2 ^ 62 }
     ensures { (h : List Event) → StandsFor hub.old h →
-        LineRan result (acts hub.old.meta (run hub.old.meta h) Poll) hub.old hub.new out.old.items out.new.items }
+        HubRan result (script.went hub.old.meta (transcript.poll hub.old.meta (run hub.old.meta h))) hub.old hub.new h
+        out.old.items out.new.items }
 {
-    match poll(hub, alloc, out, steps) {
-        Ok(()) => LineResult::Went,
-        Err(NoMemory) => LineResult::NoMemory,
-    }
+    went(poll(hub, alloc, out))
 }
 
 fn run_open(hub: &mut Hub, alloc: Global, conn: u32, out: &mut Vec<u8>) -> LineResult
     requires { hub.old.events < 2 ^ 62 }
     ensures { (h : List Event) → StandsFor hub.old h →
-        LineRan result (opens hub.old.meta (run hub.old.meta h) conn) hub.old hub.new out.old.items out.new.items }
+        HubRan result (opens hub.old.meta (run hub.old.meta h) conn) hub.old hub.new h out.old.items
+        out.new.items }
 {
     match hub.connect(alloc, conn) {
-        Ok(ConnReply::Did(effect)) => went(write_open(out, conn, &effect.queued)),
+        Ok(ConnReply::Did(effect)) => went(write_open(out, conn, &effect.queued, &effect.closed)),
         Ok(ConnReply::ConnKnown) => LineResult::Faulty(ScriptReason::Known),
         Ok(ConnReply::ConnUnknown) => LineResult::Faulty(ScriptReason::Unknown),
-        Ok(ConnReply::Unbuilt) => LineResult::Faulty(ScriptReason::Unbuilt),
         Err(NoMemory) => LineResult::NoMemory,
     }
 }
 
 fn run_recv(hub: &mut Hub, alloc: Global, conn: u32, text: &str, out: &mut Vec<u8>) -> LineResult
     requires { hub.old.events < 2 ^ 62 }
-    ensures { (h : List Event) → StandsFor hub.old h →
-        LineRan result (on_known (run hub.old.meta h) conn
-        (receives hub.old.meta (run hub.old.meta h) conn (read_message text.now))) hub.old hub.new out.old.items
-        out.new.items }
+    ensures ran { (meant : List ℕ → Message) (h : List Event) → StandsFor hub.old h →
+        AllSay meant (said_on (run hub.old.meta h) (Some (lines.Receive conn text.now))) →
+        HubRan result (serves_known hub.old.meta (run hub.old.meta h) conn (state.Receive conn (meant text.now)))
+        hub.old hub.new h out.old.items out.new.items }
+    ensures goes_on { (h : List Event) → StandsFor hub.old h → HubGoesOn result hub.old hub.new h }
 {
     match hub.recv(alloc, conn, text) {
-        Ok(ConnReply::Did(effect)) => went(write_recv(out, conn, &effect.queued)),
+        Ok(ConnReply::Did(effect)) => went(write_recv(out, conn, &effect.queued, &effect.closed)),
         Ok(ConnReply::ConnKnown) => LineResult::Faulty(ScriptReason::Known),
         Ok(ConnReply::ConnUnknown) => LineResult::Faulty(ScriptReason::Unknown),
-        Ok(ConnReply::Unbuilt) => LineResult::Faulty(ScriptReason::Unbuilt),
         Err(NoMemory) => LineResult::NoMemory,
     }
+}
+
+fn run_binary(hub: &mut Hub, alloc: Global, conn: u32, out: &mut Vec<u8>) -> LineResult
+    requires { hub.old.events < 2 ^ 62 }
+    ensures { (h : List Event) → StandsFor hub.old h →
+        HubRan result (serves_known hub.old.meta (run hub.old.meta h) conn (state.Binary conn)) hub.old hub.new h out.old.items
+        out.new.items }
+{
+    match hub.binary(alloc, conn) {
+        ConnReply::Did(effect) => went(write_binary(out, conn, &effect.queued, &effect.closed)),
+        ConnReply::ConnKnown => LineResult::Faulty(ScriptReason::Known),
+        ConnReply::ConnUnknown => LineResult::Faulty(ScriptReason::Unknown),
+    }
+}
+
+fn run_timeout(hub: &mut Hub, alloc: Global, conn: u32, out: &mut Vec<u8>) -> LineResult
+    requires { hub.old.events < 2 ^ 62 }
+    ensures { (h : List Event) → StandsFor hub.old h →
+        HubRan result (serves_known hub.old.meta (run hub.old.meta h) conn (state.Timeout conn)) hub.old hub.new h out.old.items
+        out.new.items }
+{
+    match hub.timeout(alloc, conn) {
+        ConnReply::Did(effect) => went(write_timeout(out, conn, &effect.queued, &effect.closed)),
+        ConnReply::ConnKnown => LineResult::Faulty(ScriptReason::Known),
+        ConnReply::ConnUnknown => LineResult::Faulty(ScriptReason::Unknown),
+    }
+}
+
+fn run_gone(hub: &mut Hub, alloc: Global, conn: u32, out: &mut Vec<u8>) -> LineResult
+    requires { hub.old.events < 2 ^ 62 }
+    ensures { (h : List Event) → StandsFor hub.old h →
+        HubRan result (serves_known hub.old.meta (run hub.old.meta h) conn (state.Gone conn)) hub.old hub.new h out.old.items
+        out.new.items }
+{
+    match hub.gone(alloc, conn) {
+        ConnReply::Did(effect) => went(write_gone(out, conn, &effect.queued, &effect.closed)),
+        ConnReply::ConnKnown => LineResult::Faulty(ScriptReason::Known),
+        ConnReply::ConnUnknown => LineResult::Faulty(ScriptReason::Unknown),
+    }
+}
+
+fn run_drain(hub: &mut Hub, conn: u32, out: &mut Vec<u8>) -> LineResult
+    requires { hub.old.events < 2 ^ 62 }
+    ensures { (h : List Event) → StandsFor hub.old h →
+        HubRan result (serves_known hub.old.meta (run hub.old.meta h) conn (state.Drain conn)) hub.old hub.new h out.old.items
+        out.new.items }
+{
+    match hub.drain_one(conn) {
+        DrainReply::Sent(text) => went(write_sent(out, conn, text.as_bytes())),
+        DrainReply::Empty => went(write_empty(out, conn)),
+        DrainReply::Done(reason) => went(write_done(out, conn, &reason)),
+        DrainReply::ConnUnknown => LineResult::Faulty(ScriptReason::Unknown),
+    }
+}
+
+fn run_tick(hub: &mut Hub, out: &mut Vec<u8>) -> LineResult
+    requires { hub.old.events < 2 ^ 62 }
+    ensures { (h : List Event) → StandsFor hub.old h →
+        HubRan result (serves hub.old.meta (run hub.old.meta h) state.Tick) hub.old hub.new h out.old.items
+        out.new.items }
+{
+    let due = hub.tick();
+    went(write_tick(out, due))
+}
+
+fn run_report(hub: &mut Hub, out: &mut Vec<u8>) -> LineResult
+    ensures { (h : List Event) → StandsFor hub.old h →
+        HubRan result (serves hub.old.meta (run hub.old.meta h) state.Report) hub.old hub.new h out.old.items
+        out.new.items }
+{
+    let counts = hub.report();
+    went(write_report(out, counts))
 }
 
 fn run_commit<L: Ledger>(
@@ -152,7 +205,7 @@ fn run_commit<L: Ledger>(
 ) -> LineResult
     requires { hub.old.events < 2 ^ 62 }
     ensures { (h : List Event) → StandsFor hub.old h →
-        LineRan result (commits hub.old.meta (run hub.old.meta h) (transaction text.now)) hub.old hub.new out.old.items
+        HubRan result (commits hub.old.meta (run hub.old.meta h) (transaction text.now)) hub.old hub.new h out.old.items
         out.new.items }
 {
     match read_tx(alloc, text) {
@@ -171,22 +224,12 @@ fn commit<L: Ledger>(
 ) -> LineResult
     requires { hub.old.events < 2 ^ 62 }
     ensures { (h : List Event) → StandsFor hub.old h →
-        LineRan result (serves hub.old.meta (run hub.old.meta h) (Commit tx.now)) hub.old hub.new out.old.items
+        HubRan result (serves hub.old.meta (run hub.old.meta h) (state.Commit tx.now)) hub.old hub.new h out.old.items
         out.new.items }
 {
     match hub.commit(alloc, tx, steps) {
         Ok(CommitReply::Committed(version)) => went(write_commit(out, version)),
         Ok(CommitReply::Refused(fault)) => went(write_refused(out, fault)),
-        Err(NoMemory) => LineResult::NoMemory,
-    }
-}
-
-/// A line went, if its transcript could be appended.
-fn went(written: Result<(), NoMemory>) -> LineResult
-    ensures { IsWent result written }
-{
-    match written {
-        Ok(()) => LineResult::Went,
         Err(NoMemory) => LineResult::NoMemory,
     }
 }

@@ -3,13 +3,16 @@
 #![tactic(auto)]
 
 mod answer;
+mod evaluation;
 mod event;
+mod jobs;
 mod line_result;
 mod main_call;
 mod poll;
 mod progress;
 mod put;
 mod reader;
+mod runner;
 mod script;
 
 pub use answer::{RunEnd, ScriptReason};

@@ -1,8 +1,9 @@
 ghost use Rattle.std.specs.Prelude.{◌≡◌, ◌≢◌, ◌≤◌, ◌⊎◌, ◌++◌, true, false, ℕ, List, Some, None, map, string_bytes};
 ghost use Rattle.outside.specs.Ends.{Rose};
-ghost use Rattle.model.specs.Script.{outcome, output};
-ghost use Rattle.model.specs.declared.script.ScriptReason.{ScriptReason};
-ghost use Rattle.subs_run.specs.Runs.{HasRead, ReadWhole, WroteWholeLines, WroteFront};
+ghost use Rattle.machine.specs.Messages.{Message};
+ghost use Rattle.machine.specs.Script.{outcome, output};
+ghost use Rattle.machine.specs.declared.script.ScriptReason.{ScriptReason};
+ghost use Rattle.subs_run.specs.Runs.{Reads, HasRead, ReadWhole, WroteWholeLines, WroteFront};
 ghost use Rattle.subs_run.specs.Words.{is_run, usage_line, answer_text};
 ghost use Rattle.subs_run.specs.Written.{WritesAll, WritesFront};
 
@@ -37,9 +38,11 @@ pub fn run_main<S: Source, K: Sink, L: Ledger>(
     // 0 and 2: the whole output was written.
     ensures done { result ≡ 0 → (all : List ℕ) → S.left source.old ≡ Some all → ReadWhole all (S.left source.new) }
     ensures fault { result ≡ 2 → (all : List ℕ) → S.left source.old ≡ Some all → (line : ℕ)
-        × ((reason : ScriptReason) × ((outcome all).fault ≡ Some (line, reason))) }
+        × ((reason : ScriptReason) × ((meant : List ℕ → Message) → Reads meant all →
+        (outcome meant all).fault ≡ Some (line, reason))) }
     ensures whole { (result ≡ 0) ⊎ (result ≡ 2) → (all w : List ℕ) → S.left source.old ≡ Some all →
-        K.written sink.old ≡ Some w → K.written sink.new ≡ Some (w ++ output all) }
+        K.written sink.old ≡ Some w → (meant : List ℕ → Message) → Reads meant all →
+        K.written sink.new ≡ Some (w ++ output meant all) }
 
     // 1: the source failed. What was written is the transcript of the lines that were whole, none of them at fault.
     ensures source_fault { result ≡ 1 → Rose (S.faults source.old) (S.faults source.new) }
@@ -49,7 +52,8 @@ pub fn run_main<S: Source, K: Sink, L: Ledger>(
     // 3: the sink failed. What was written is a front of what 0, 2 or 5 would write, as for want of memory.
     ensures sink_fault { result ≡ 3 → Rose (K.faults sink.old) (K.faults sink.new) }
     ensures front { (result ≡ 3) ⊎ (result ≡ 4) → (all w : List ℕ) → S.left source.old ≡ Some all →
-        K.written sink.old ≡ Some w → WroteFront (answer_text (map string_bytes words.now) all) w (K.written sink.new) }
+        K.written sink.old ≡ Some w → (meant : List ℕ → Message) → Reads meant all →
+        WroteFront (answer_text meant (map string_bytes words.now) all) w (K.written sink.new) }
 
     // 5: the words are no command.
     ensures run_alone { is_run (map string_bytes words.now) ≡ true → result ≢ 5 }
@@ -69,7 +73,8 @@ pub fn run_main<S: Source, K: Sink, L: Ledger>(
     ensures sink_steady { K.never_fails sink.old → result ≢ 3 }
     ensures complete { S.never_fails source.old → K.never_fails sink.old → (result ≢ 1) × (result ≢ 3) }
     ensures answered { S.never_fails source.old → K.never_fails sink.old → is_run (map string_bytes words.now) ≡ true →
-        (all : List ℕ) → S.left source.old ≡ Some all → (outcome all).fault ≡ None → (result ≡ 0) ⊎ (result ≡ 4) }
+        (all : List ℕ) → S.left source.old ≡ Some all → (meant : List ℕ → Message) → Reads meant all →
+        (outcome meant all).fault ≡ None → (result ≡ 0) ⊎ (result ≡ 4) }
 {
     if !is_run(words) {
         return write_usage(sink);

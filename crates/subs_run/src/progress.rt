@@ -1,12 +1,14 @@
-ghost use Rattle.std.specs.Prelude.{◌≡◌, ◌<◌, ◌+◌, ◌++◌, ◌∷◌, [], ℕ, Err, IfOk, IfErr, codes};
-ghost use Rattle.model.specs.Values.{same_text};
+ghost use Rattle.std.specs.Prelude.{◌≡◌, ◌<◌, ◌+◌, ◌++◌, ◌∷◌, [], ℕ, List, Err, IfOk, IfErr, codes};
+ghost use Rattle.std.specs.Str.{bytes_eq};
 ghost use Rattle.role_model.specs.declared.metadata.MetaFault.{MetaFault};
 ghost use Rattle.role_model.specs.MetadataMeaning.{metadata_of};
-ghost use Rattle.model.specs.Script.{Reading, take_line, limit};
-ghost use Rattle.subs_run.specs.Progress.{HasStand, StandsAt, Advances, Begins, IsNew, IfWent};
+ghost use Rattle.machine.specs.Messages.{Message};
+ghost use Rattle.machine.specs.Script.{AllSay, Reading, limit, said_by, take_line};
+ghost use Rattle.subs_run.specs.Progress.{Advances, Begins, HasStand, IfWent, IsNew, OnWent, StandsAt};
 
 use crate::event::run_line;
 use crate::line_result::LineResult;
+use crate::runner::Runner;
 use hub::Hub;
 use role_schema::{Meta, MetaReadFault};
 use scalar_val::{NoMemory, Steps};
@@ -18,7 +20,7 @@ use std::sync::ledger::Ledger;
 #[derive(Drop)]
 pub(crate) enum Progress {
     Heading(Vec<u8>),
-    Running(Hub),
+    Running(Runner),
 }
 
 /// Takes one line, and appends its transcript.
@@ -29,19 +31,25 @@ pub(crate) fn advance<L: Ledger>(
     out: &mut Vec<u8>,
     steps: &mut Steps<L>,
 ) -> LineResult
-    requires { HasStand progress.old }
-    ensures { (lines_read : ℕ) (reading : Reading) → lines_read < limit → StandsAt progress.old lines_read reading →
-        Advances result (take_line reading line.now) progress.new (lines_read + 1) out.old.items out.new.items }
+    requires { (lines_read : ℕ) × (lines_read < limit) × HasStand progress.old lines_read }
+    ensures advances { (meant : List ℕ → Message) (reading : Reading) → StandsAt progress.old reading →
+        AllSay meant (said_by reading line.now) →
+        Advances result (take_line meant reading line.now) progress.new out.old.items out.new.items }
+    ensures stays { (lines_read : ℕ) → lines_read < limit → HasStand progress.old lines_read →
+        OnWent result (HasStand progress.new (lines_read + 1)) }
 {
     match progress {
-        Progress::Running(hub) => run_line(hub, alloc, line, out, steps),
+        Progress::Running(runner) => run_line(runner, alloc, line, out, steps),
         Progress::Heading(metadata) => {
             if !ends_metadata(line) {
                 return keep_line(metadata, line);
             }
             match begin(alloc, metadata) {
                 Ok(hub) => {
-                    *progress = Progress::Running(hub);
+                    *progress = Progress::Running(Runner {
+                        hub,
+                        jobs: Vec::new(alloc),
+                    });
                     LineResult::Went
                 }
                 Err(MetaReadFault::Refused(fault)) => {
@@ -55,7 +63,7 @@ pub(crate) fn advance<L: Ledger>(
 
 /// Whether the line is the one behind the metadata.
 fn ends_metadata(line: &[u8]) -> bool
-    ensures { result ≡ same_text line.now (codes "---") }
+    ensures { result ≡ bytes_eq line.now (codes "---") }
 {
     line == b"---".as_slice()
 }

@@ -17,12 +17,13 @@ ghost use Rattle.std.specs.Prelude.{
   if◌then◌else◌,
 };
 ghost use Rattle.outside.specs.Ends.{Rose};
-ghost use Rattle.model.specs.Script.{Reading, take_line, limit, ended, fault_line};
-ghost use Rattle.model.specs.declared.script.ScriptReason.TheVariants.{Cut};
+ghost use Rattle.machine.specs.Messages.{Message};
+ghost use Rattle.machine.specs.Script.{AllSay, Reading, ended, fault_line, limit, said_by, take_line};
+ghost use Rattle.machine.specs.declared.script.ScriptReason.TheVariants.{Cut};
 ghost use Rattle.subs_run.specs.Runs.{ran};
 ghost use Rattle.subs_run.specs.Pieces.{TakesTo, ClosesAs};
-ghost use Rattle.subs_run.specs.Progress.{StandsAt};
-ghost use Rattle.subs_run.specs.Standing.{Matches, IsAfter, FedAs, FedAll, HasRoom};
+ghost use Rattle.subs_run.specs.Progress.{HasStand, StandsAt};
+ghost use Rattle.subs_run.specs.Standing.{AreRead, Counts, FedAll, FedAs, HasRoom, HasRun, Matches};
 
 use crate::answer::{RunEnd, ScriptReason};
 use crate::line_result::LineResult;
@@ -65,7 +66,7 @@ pub(crate) enum PieceOutcome {
 impl Reader {
     /// Before the first byte.
     pub(crate) fn new(alloc: Global) -> Reader
-        ensures { IsAfter result [] }
+        ensures { HasRun result [] }
     {
         Reader {
             progress: Progress::Heading(Vec::new(alloc)),
@@ -77,10 +78,12 @@ impl Reader {
 
     /// Takes the line, whose end came, and leaves its transcript in `out`.
     fn take_line<L: Ledger>(&mut self, alloc: Global, steps: &mut Steps<L>) -> LineResult
-        requires stands { (reading : Reading) × StandsAt self.old.progress self.old.lines_read reading }
+        requires stands { HasStand self.old.progress self.old.lines_read }
         requires few { self.old.lines_read < limit }
-        ensures went { (reading : Reading) → StandsAt self.old.progress self.old.lines_read reading →
-            Matches result (take_line reading self.old.line.items) self.old.lines_read self.new }
+        ensures counts { Counts result self.old.lines_read self.new }
+        ensures went { (meant : List ℕ → Message) (reading : Reading) → StandsAt self.old.progress reading →
+            AllSay meant (said_by reading self.old.line.items) →
+            Matches result (take_line meant reading self.old.line.items) self.new }
     {
         self.out.clear();
         match advance(&mut self.progress, alloc, &self.line, &mut self.out, steps) {
@@ -102,9 +105,10 @@ impl Reader {
         steps: &mut Steps<L>,
     ) -> Fed
         requires { HasRoom self.old 1 }
-        ensures fed { (seen : List ℕ) → IsAfter self.old seen → FedAs result self.new (seen ++ byte ∷ []) }
-        ensures all { (seen : List ℕ) → IsAfter self.old seen →
-            FedAll result (K.written sink.old) (K.written sink.new) (ran seen).text (ran (seen ++ byte ∷ [])).text }
+        ensures fed { (seen : List ℕ) → HasRun self.old seen → FedAs result self.new (seen ++ byte ∷ []) }
+        ensures all { (meant : List ℕ → Message) (seen : List ℕ) → HasRun self.old seen →
+            AreRead meant (seen ++ byte ∷ []) → FedAll result (K.written sink.old) (K.written sink.new)
+            (ran meant seen).text (ran meant (seen ++ byte ∷ [])).text }
         ensures later { K.faults sink.old ≤ K.faults sink.new }
         ensures failed { result ≡ Fed.SinkFailed → Rose (K.faults sink.old) (K.faults sink.new) }
         ensures steady { K.never_fails sink.old → K.never_fails sink.new × (result ≢ Fed.SinkFailed) }
@@ -136,9 +140,10 @@ impl Reader {
         steps: &mut Steps<L>,
     ) -> Fed
         requires { HasRoom self.old (length piece.now) }
-        ensures fed { (seen : List ℕ) → IsAfter self.old seen → FedAs result self.new (seen ++ piece.now) }
-        ensures all { (seen : List ℕ) → IsAfter self.old seen →
-            FedAll result (K.written sink.old) (K.written sink.new) (ran seen).text (ran (seen ++ piece.now)).text }
+        ensures fed { (seen : List ℕ) → HasRun self.old seen → FedAs result self.new (seen ++ piece.now) }
+        ensures all { (meant : List ℕ → Message) (seen : List ℕ) → HasRun self.old seen →
+            AreRead meant (seen ++ piece.now) → FedAll result (K.written sink.old) (K.written sink.new)
+            (ran meant seen).text (ran meant (seen ++ piece.now)).text }
         ensures later { K.faults sink.old ≤ K.faults sink.new }
         ensures failed { result ≡ Fed.SinkFailed → Rose (K.faults sink.old) (K.faults sink.new) }
         ensures steady { K.never_fails sink.old → K.never_fails sink.new × (result ≢ Fed.SinkFailed) }
@@ -161,7 +166,7 @@ impl Reader {
         steps: &mut Steps<L>,
     ) -> PieceOutcome
         requires { HasRoom self.old (length piece.now) }
-        ensures takes { (seen : List ℕ) → IsAfter self.old seen → length seen + length piece.now ≤ limit →
+        ensures takes { (seen : List ℕ) → HasRun self.old seen → length seen + length piece.now ≤ limit →
             TakesTo result self.new (K.written sink.old) (K.written sink.new) seen piece.now }
         ensures later { K.faults sink.old ≤ K.faults sink.new }
         ensures failed { result ≡ PieceOutcome.Ended RunEnd.SinkFault → Rose (K.faults sink.old) (K.faults sink.new) }
@@ -199,7 +204,7 @@ impl Reader {
 
     /// Whether the script may not end here: within a line, or within its metadata.
     fn is_cut(&self) -> bool
-        ensures { (reading : Reading) → StandsAt self.now.progress self.now.lines_read reading →
+        ensures { (reading : Reading) → StandsAt self.now.progress reading →
             ended (self.now.lines_read + 1) self.now.line.items reading
             ≡ (if result then Some (self.now.lines_read + 1, Cut) else None) }
     {
@@ -212,9 +217,10 @@ impl Reader {
     /// The script ends here.
     pub(crate) fn finish<K: Sink>(&mut self, sink: &mut K) -> RunEnd
         requires { self.old.lines_read ≤ limit }
-        ensures closes { (reading : Reading) → StandsAt self.old.progress self.old.lines_read reading →
+        ensures closes { (reading : Reading) → StandsAt self.old.progress reading →
             ClosesAs result (K.written sink.old) (K.written sink.new)
             (ended (self.old.lines_read + 1) self.old.line.items reading) }
+        ensures sink_alone { result ≢ RunEnd.SourceFault }
         ensures later { K.faults sink.old ≤ K.faults sink.new }
         ensures failed { result ≡ RunEnd.SinkFault → Rose (K.faults sink.old) (K.faults sink.new) }
         ensures steady { K.never_fails sink.old → K.never_fails sink.new × (result ≢ RunEnd.SinkFault) }

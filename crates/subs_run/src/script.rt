@@ -1,7 +1,8 @@
 ghost use Rattle.std.specs.Prelude.{◌≡◌, ◌≢◌, ◌≤◌, ◌<◌, ◌-◌, ◌⊎◌, ◌++◌, [], ℕ, List, Option, Some, None, length};
 ghost use Rattle.outside.specs.Ends.{Rose, Takes, HasCause};
-ghost use Rattle.model.specs.Script.{limit, outcome, output};
-ghost use Rattle.subs_run.specs.Runs.{EndsAs, IsToldWhole, HasRead, ReadWhole, WroteWholeLines, WroteFront, AtMost};
+ghost use Rattle.machine.specs.Messages.{Message};
+ghost use Rattle.machine.specs.Script.{limit, outcome, output};
+ghost use Rattle.subs_run.specs.Runs.{Reads, EndsAs, IsToldWhole, HasRead, ReadWhole, WroteWholeLines, WroteFront, AtMost};
 ghost use Rattle.subs_run.specs.Standing.{HasRoom};
 ghost use Rattle.subs_run.specs.Pieces.{Ends, ends, IsAt, LeadsTo, ClosedAs};
 
@@ -18,7 +19,7 @@ const PIECE: usize = 4096;
 /// The bytes of a script, at most.
 const LIMIT: usize = 67_108_864;
 
-/// Runs a script from its first byte.
+/// Runs a script from its first byte. `meant` gives each text of a client the message that it says.
 pub fn run_script<S: Source, K: Sink, L: Ledger>(
     alloc: Global,
     source: &mut S,
@@ -28,9 +29,10 @@ pub fn run_script<S: Source, K: Sink, L: Ledger>(
     // Done: the whole input was read, and no line is at fault. ScriptFault: this is the fault.
     ensures done { result ≡ RunEnd.Done → (all : List ℕ) → S.left source.old ≡ Some all →
         ReadWhole all (S.left source.new) }
-    ensures fault { (all : List ℕ) → S.left source.old ≡ Some all → EndsAs result (outcome all).fault }
+    ensures fault { (all : List ℕ) → S.left source.old ≡ Some all → (meant : List ℕ → Message) → Reads meant all →
+        EndsAs result (outcome meant all).fault }
     ensures whole { IsToldWhole result → (all w : List ℕ) → S.left source.old ≡ Some all → K.written sink.old ≡ Some w →
-        K.written sink.new ≡ Some (w ++ output all) }
+        (meant : List ℕ → Message) → Reads meant all → K.written sink.new ≡ Some (w ++ output meant all) }
 
     // The source failed. What was written is the transcript of the lines that were whole, none of them at fault.
     ensures source_fault { result ≡ RunEnd.SourceFault → Rose (S.faults source.old) (S.faults source.new) }
@@ -40,7 +42,8 @@ pub fn run_script<S: Source, K: Sink, L: Ledger>(
     // The sink failed. What was written is a front of the output, as for want of memory.
     ensures sink_fault { result ≡ RunEnd.SinkFault → Rose (K.faults sink.old) (K.faults sink.new) }
     ensures front { (result ≡ RunEnd.SinkFault) ⊎ (result ≡ RunEnd.NoMemory) → (all w : List ℕ) →
-        S.left source.old ≡ Some all → K.written sink.old ≡ Some w → WroteFront (output all) w (K.written sink.new) }
+        S.left source.old ≡ Some all → K.written sink.old ≡ Some w → (meant : List ℕ → Message) → Reads meant all →
+        WroteFront (output meant all) w (K.written sink.new) }
 
     // No more than one byte past the limit is read.
     ensures reads { (all : List ℕ) → S.left source.old ≡ Some all → HasRead all (S.left source.new) }
@@ -53,8 +56,8 @@ pub fn run_script<S: Source, K: Sink, L: Ledger>(
 
     // Then a script without a fault is run whole.
     ensures answered { S.never_fails source.old → K.never_fails sink.old → (all : List ℕ) →
-        S.left source.old ≡ Some all → (outcome all).fault ≡ None → (result ≡ RunEnd.Done)
-        ⊎ (result ≡ RunEnd.NoMemory) }
+        S.left source.old ≡ Some all → (meant : List ℕ → Message) → Reads meant all →
+        (outcome meant all).fault ≡ None → (result ≡ RunEnd.Done) ⊎ (result ≡ RunEnd.NoMemory) }
 {
     let mut reader = Reader::new(alloc);
     let mut buf = [0u8; PIECE];

@@ -178,9 +178,9 @@ fn a_line_at_fault_ends_the_script(rt: HostRuntime) -> Result<(), Fail> {
         ("open 1\n", "open 1\nfault 8 known\n"),
         ("recv 2 {}\n", "open 1\nfault 8 unknown\n"),
         ("drain 2\n", "open 1\nfault 8 unknown\n"),
-        ("drain 1\n", "open 1\nfault 8 unbuilt\n"),
-        ("recv 1 {}\n", "open 1\nfault 8 unbuilt\n"),
-        ("tick\n", "open 1\nfault 8 unbuilt\n"),
+        ("drain 1\n", "open 1\nempty 1\n"),
+        ("tick\n", "open 1\ntick 0\n"),
+        ("publish 1\n", "open 1\nnot open 1\n"),
         ("commit {}\n", "open 1\nfault 8 transaction\n"),
         ("commit []\n", "open 1\ncommit 1\n"),
     ] {

@@ -1,6 +1,6 @@
 use Rattle.std.proofs.Common.{ap, sym, ◌∙◌, false, true, rules}
 use Rattle.std.proofs.lemmas.Str.{is_utf8-from_IsUtf8}
-use Rattle.model.specs.Script.{read_form}
+use Rattle.machine.specs.Lines.{read_form}
 use Rattle.script_text.proofs.Lines.{read_line-other, not_utf8}
 use Rattle.script_text.proofs.line.read_line.Goals as goal
 

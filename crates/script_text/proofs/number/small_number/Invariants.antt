@@ -1,6 +1,6 @@
 use Rattle.std.proofs.Common.{◌≡◌, ◌+◌, ◌-◌, ◌*◌, ◌<◌, drop}
 use Rattle.std.specs.List.{fold}
-use Rattle.model.specs.Values.{number_of}
+use Rattle.machine.specs.Lines.{number_of}
 use Rattle.script_text.proofs.number.small_number.Given as goal
 
 abbrev pub invariant-loop-byte : goal.invariant-loop-byte

@@ -1,7 +1,7 @@
 use Rattle.std.proofs.Common.{◌≡◌, max, map, take}
 use Rattle.std.specs.List.{fold}
-use Rattle.model.specs.State as machine
-use Rattle.hub.specs.Jobs.{member_of}
+use Rattle.machine.specs.State as machine
+use Rattle.hub_model.specs.Kept.{member_of}
 use Rattle.subs_run.proofs.poll.cohorts.Given as goal
 
 abbrev pub invariant-loop-member : goal.invariant-loop-member

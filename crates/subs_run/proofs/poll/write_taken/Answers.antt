@@ -1,9 +1,10 @@
 use Rattle.std.proofs.Common.{◌∙◌, sym, ap, refl, List, map}
 use Rattle.std.proofs.lemmas.List.{length-map}
 use Rattle.std.proofs.lemmas.Result.{IfOk-weaker}
-use Rattle.model.specs.Transcript.{cohorts}
-use Rattle.hub.specs.declared.job.Member.{Member}
-use Rattle.hub.specs.Jobs.{job_of, member_of}
+use Rattle.machine.specs.Transcript.{cohorts}
+use Rattle.cohort_map.specs.declared.member.Member.{Member}
+use Rattle.hub_model.specs.Kept.{member_of}
+use Rattle.hub_model.specs.Jobs.{job_of}
 use Rattle.subs_run.proofs.poll.write_taken.Goals as goal
 
 pub returns : goal.returns

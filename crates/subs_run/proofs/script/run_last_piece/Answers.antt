@@ -1,14 +1,14 @@
 use Rattle.std.proofs.Common.{arith}
-use Rattle.model.specs.Script.{limit}
+use Rattle.machine.specs.Script.{limit}
 use Rattle.subs_run.proofs.Readers.{taken_within}
 use Rattle.subs_run.proofs.Pieces.{too_long, finished}
 use Rattle.subs_run.proofs.script.run_last_piece.Goals as goal
 
 pub fault-requires : goal.fault-requires
-fault-requires g c = omega (arith, taken_within c.args.reader.now c.requires.room.seen c.requires.room.after, c.requires.room.within)
+fault-requires g c = omega (arith, taken_within c.args.reader.now c.requires.room.seen c.requires.room.ran, c.requires.room.within)
 
 pub finish-requires : goal.finish-requires
-finish-requires g c = omega (arith, taken_within c.args.reader.now c.requires.room.seen c.requires.room.after, c.requires.room.within)
+finish-requires g c = omega (arith, taken_within c.args.reader.now c.requires.room.seen c.requires.room.ran, c.requires.room.within)
 
 pub returns-in-Bytes-clause-closed : goal.returns-in-Bytes-clause-closed
 returns-in-Bytes-clause-closed g c start a =
@@ -16,4 +16,4 @@ returns-in-Bytes-clause-closed g c start a =
 
 pub returns-in-End-clause-closed : goal.returns-in-End-clause-closed
 returns-in-End-clause-closed g c start a =
-    finished c.finish.result start.left (g.S.Source.left c.args.source.now) (g.S.Source.left c.read_piece.new.source) start.written (g.K.Sink.written c.args.sink.now) (g.K.Sink.written c.finish.new.sink) c.args.reader.now c.read_piece.new.buf limit a c.in-End.ensures.bytes (c.finish.ensures.closes a.after.reading a.after.stands)
+    finished c.finish.result start.left (g.S.Source.left c.args.source.now) (g.S.Source.left c.read_piece.new.source) start.written (g.K.Sink.written c.args.sink.now) (g.K.Sink.written c.finish.new.sink) c.args.reader.now c.read_piece.new.buf limit a c.in-End.ensures.bytes c.finish.ensures.closes

@@ -1,12 +1,12 @@
 use Rattle.std.proofs.Common.{◌≤◌, ◌+◌, ◌-◌, rules, arith, ℕ, length}
 use Rattle.std.proofs.lemmas.List.{length-take-le}
-use Rattle.model.specs.Script.{limit}
+use Rattle.machine.specs.Script.{limit}
 use Rattle.subs_run.proofs.Readers.{taken_within}
 use Rattle.subs_run.proofs.Pieces.{piece_came, finished}
 use Rattle.subs_run.proofs.script.run_piece.Goals as goal
 
 pub finish-requires : goal.finish-requires
-finish-requires g c = omega (arith, taken_within c.args.reader.now c.requires.room.seen c.requires.room.after, c.requires.room.within)
+finish-requires g c = omega (arith, taken_within c.args.reader.now c.requires.room.seen c.requires.room.ran, c.requires.room.within)
 
 pub returns-in-Bytes-clause-leads : goal.returns-in-Bytes-clause-leads
 returns-in-Bytes-clause-leads g c start a =
@@ -20,4 +20,4 @@ returns-in-Bytes-clause-leads g c start a =
 
 pub returns-in-End-clause-leads : goal.returns-in-End-clause-leads
 returns-in-End-clause-leads g c start a =
-    finished c.finish.result start.left (g.S.Source.left c.args.source.now) (g.S.Source.left c.read_piece.new.source) start.written (g.K.Sink.written c.args.sink.now) (g.K.Sink.written c.finish.new.sink) c.args.reader.now c.read_piece.new.buf c.args.count a c.in-End.ensures.bytes (c.finish.ensures.closes a.after.reading a.after.stands)
+    finished c.finish.result start.left (g.S.Source.left c.args.source.now) (g.S.Source.left c.read_piece.new.source) start.written (g.K.Sink.written c.args.sink.now) (g.K.Sink.written c.finish.new.sink) c.args.reader.now c.read_piece.new.buf c.args.count a c.in-End.ensures.bytes c.finish.ensures.closes

@@ -1,12 +1,47 @@
-use Rattle.std.proofs.Common.{◌∙◌, sym, subst, None, Some}
-use Rattle.model.specs.Admission.{admits}
-use Rattle.hub.specs.Plans.{administrator, IsPlanOf}
-use Rattle.hub.proofs.Events.{subscribed}
+use Rattle.hub.proofs.Receives.{its_session, session_there, join_event, join_received, refuse_event, refuse_received, refused_with}
 use Rattle.hub.proofs.center.Hub.subscribe.Goals as goal
 
-pub returns-clause-reply : goal.returns-clause-reply
-returns-clause-reply c =
-    let admitted : IsPlanOf c.self.inside.meta (admits c.self.inside.meta administrator (record { query = c.args.query.now; operation = None })) (Some c.in-Some.plan) =
-    subst (IsPlanOf c.self.inside.meta (admits c.self.inside.meta administrator (record { query = c.args.query.now; operation = None }))) c.in-Some.is c.in_ok-plan.ensures in
-    rw (← c.self.view_is, c.add_subscription.ensures, c.in_ok-subscription.ensures, c.new.ensures)
-    (subscribed c.self.inside c.args.conn c.self.inside.connection c.args.id.now (record { query = c.args.query.now; operation = None }) c.in-Some.plan (sym c.is_free.ensures ∙ c.if-not-is_free.false) admitted.0)
+pub admitted-requires : goal.admitted-requires
+admitted-requires c =
+    session_there c.args.conn c.args.self.now c.args.msg.now c.requires.asks c.in-Subscribe.id c.in-Subscribe.request
+    c.in-Subscribe.is
+
+pub join-requires-clause-event : goal.join-requires-clause-event
+join-requires-clause-event c =
+    let s = its_session c.args.conn c.args.self.now c.args.msg.now c.requires.asks c.in-Subscribe.id
+    c.in-Subscribe.request c.in-Subscribe.is in
+    join_event c.args.conn c.args.self.now c.args.msg.now c.requires.asks c.in-Subscribe.id c.in-Subscribe.request
+    c.in-Subscribe.is c.requests.ensures.once c.requests.ensures.by_selection c.in-Ok.ready
+    (c.in-Ok.ensures.ok s.session s.at) c.as_str.result.now c.as_str.ensures
+
+pub refuse-requires-clause-event : goal.refuse-requires-clause-event
+refuse-requires-clause-event c =
+    let s = its_session c.args.conn c.args.self.now c.args.msg.now c.requires.asks c.in-Subscribe.id
+    c.in-Subscribe.request c.in-Subscribe.is in
+    refuse_event c.args.conn c.args.self.now c.args.msg.now c.requires.asks c.in-Subscribe.id c.in-Subscribe.request
+    c.in-Subscribe.is c.requests.ensures.once c.requests.ensures.by_selection c.in-Err-Refused.fault
+    (c.admitted.ensures.refused s.session s.at c.in-Err-Refused.fault
+    (refused_with c.admitted.result c.in-Err-Refused.field-0 c.in-Err-Refused.fault c.in-Err-Refused.is
+    c.in-Err-Refused.field-0-is))
+    c.as_str-in-Err-Refused.result.now c.as_str-in-Err-Refused.ensures
+
+pub returns-in-Ok-clause-reply : goal.returns-in-Ok-clause-reply
+returns-in-Ok-clause-reply c =
+    let s = its_session c.args.conn c.args.self.now c.args.msg.now c.requires.asks c.in-Subscribe.id
+    c.in-Subscribe.request c.in-Subscribe.is in
+    join_received c.args.conn c.args.self.now c.args.msg.now c.requires.asks c.in-Subscribe.id c.in-Subscribe.request
+    c.in-Subscribe.is c.requests.ensures.once c.requests.ensures.by_selection c.in-Ok.ready
+    (c.in-Ok.ensures.ok s.session s.at) c.as_str.result.now c.as_str.ensures c.join.new.self c.join.result
+    c.join.ensures.reply
+
+pub returns-in-Err-Refused-clause-reply : goal.returns-in-Err-Refused-clause-reply
+returns-in-Err-Refused-clause-reply c =
+    let s = its_session c.args.conn c.args.self.now c.args.msg.now c.requires.asks c.in-Subscribe.id
+    c.in-Subscribe.request c.in-Subscribe.is in
+    refuse_received c.args.conn c.args.self.now c.args.msg.now c.requires.asks c.in-Subscribe.id c.in-Subscribe.request
+    c.in-Subscribe.is c.requests.ensures.once c.requests.ensures.by_selection c.in-Err-Refused.fault
+    (c.admitted.ensures.refused s.session s.at c.in-Err-Refused.fault
+    (refused_with c.admitted.result c.in-Err-Refused.field-0 c.in-Err-Refused.fault c.in-Err-Refused.is
+    c.in-Err-Refused.field-0-is))
+    c.as_str-in-Err-Refused.result.now c.as_str-in-Err-Refused.ensures c.refuse.new.self c.refuse.result
+    c.refuse.ensures.reply

@@ -1,5 +1,0 @@
-pub mod Filters
-pub mod WorkedReaders
-mod WorkedOutputs
-pub mod WorkedLines
-pub mod WorkedFlights
