@@ -71,6 +71,24 @@ impl<'a> Scan<'a> {
         steps.tick();
         Some(row)
     }
+
+    /// All rows that are left. Each counts one step.
+    pub fn rest<L: Ledger>(self, steps: &mut Steps<L>) -> &'a [Row]
+        ensures rows { result.now ≡ self.entry }
+        ensures steps { steps.new ≡ steps.old + length self.entry }
+    {
+        count_each(self.rest, steps);
+        self.rest
+    }
+}
+
+/// Counts a step for each row. Nothing of it is left at run time.
+fn count_each<L: Ledger>(rows: &[Row], steps: &mut Steps<L>)
+    ensures { steps.new ≡ steps.old + length rows.now }
+{
+    for _row in rows {
+        steps.tick();
+    }
 }
 
 fn share_tables(alloc: Global, tables: &[Arc<Table>]) -> Result<Vec<Arc<Table>>, NoMemory>
@@ -126,6 +144,17 @@ impl Snapshot {
         ensures { IsTrue (is_numbered self.now.catalog) }
     {
         let _ = &self.tables;
+    }
+
+    /// The first column of the key of the table at a place, from 0. `None` where there is no such table.
+    pub fn key_column(&self, table: u32) -> Option<u32>
+        ensures { result ≡ slice_get (table_at self.now table).key 0 }
+    {
+        let catalog: &Catalog = &self.catalog;
+        match catalog.tables.get(table as usize) {
+            Some(table) => table.key.get(0).copied(),
+            None => None,
+        }
     }
 
     /// The rows of the table at a place, from 0, in ascending order of their keys.
