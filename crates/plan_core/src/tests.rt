@@ -3,7 +3,7 @@ ghost use Rattle.plan_model.specs.declared.filter.Binding.{Binding};
 ghost use Rattle.plan_model.specs.FilterFits.{fits};
 
 use crate::{
-    Binding, Filter, Items, Op, Operand, OperandList, Slot, SlotList, TruthValue, ValList,
+    Binding, Filter, Items, Op, Operand, OperandList, Plan, Slot, SlotList, TruthValue, ValList,
     copy_binding, truth,
 };
 use scalar_val::{NoMemory, Str, Val};
@@ -81,6 +81,14 @@ const YES: TruthValue = TruthValue::Yes;
 const NO: TruthValue = TruthValue::No;
 
 const UNKNOWN: TruthValue = TruthValue::Unknown;
+
+fn is_send_and_sync<T: Send + Sync>() {}
+
+#[test]
+fn plans_and_bindings_may_be_shared_with_other_threads() {
+    is_send_and_sync::<Plan>();
+    is_send_and_sync::<Binding>();
+}
 
 #[test]
 fn a_comparison_with_null_is_unknown_under_a_negation_too(rt: HostRuntime) -> Result<(), Fail> {

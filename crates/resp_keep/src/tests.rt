@@ -14,6 +14,14 @@ fn counts_as(alloc: Global, kept: &Kept, text: &str) -> Result<(bool, bool), NoM
     Ok((with_digest, same_text(kept, &text)))
 }
 
+fn is_send_and_sync<T: Send + Sync>() {}
+
+#[test]
+fn kept_texts_may_be_shared_with_other_threads() {
+    is_send_and_sync::<Kept>();
+    is_send_and_sync::<SharedKept>();
+}
+
 #[test]
 fn only_an_equal_text_is_the_same(rt: HostRuntime) -> Result<(), Fail> {
     let alloc = rt.alloc();

@@ -1,4 +1,4 @@
-use crate::{Meta, MetaFault, MetaReadFault};
+use crate::{Meta, MetaFault, MetaReadFault, RoleView};
 use std::alloc::Global;
 
 const TWO_TABLES: &str = r#"version = 1
@@ -41,6 +41,14 @@ fn refusal_of_user(alloc: Global, lines: &str) -> Option<MetaFault> {
         return None;
     }
     refusal(alloc, text.as_str())
+}
+
+fn is_send_and_sync<T: Send + Sync>() {}
+
+#[test]
+fn metadata_may_be_shared_with_other_threads() {
+    is_send_and_sync::<Meta>();
+    is_send_and_sync::<RoleView<'static>>();
 }
 
 #[test]
