@@ -63,6 +63,15 @@ fn take(alloc: Global, map: &mut CohortMap, job: u64, limit: u32) -> Result<Stri
     told(alloc, &members)
 }
 
+fn is_send_and_sync<T: Send + Sync>() {}
+
+#[test]
+fn a_map_may_be_shared_with_other_threads() {
+    is_send_and_sync::<CohortMap>();
+    is_send_and_sync::<MemberList>();
+    is_send_and_sync::<PollerKey>();
+}
+
 #[test]
 fn subscriptions_beyond_a_batch_come_with_the_next_one(rt: HostRuntime) -> Result<(), Fail> {
     let alloc = rt.alloc();

@@ -26,6 +26,13 @@ fn acts_as(table: &ConnectionTable, conn: u32, role: &str) -> bool {
     }
 }
 
+fn is_send_and_sync<T: Send + Sync>() {}
+
+#[test]
+fn a_table_may_be_shared_with_other_threads() {
+    is_send_and_sync::<ConnectionTable>();
+}
+
 #[test]
 fn a_new_table_is_empty(rt: HostRuntime) -> Result<(), Fail> {
     let mut table = ConnectionTable::new(rt.alloc());

@@ -76,6 +76,14 @@ fn told(alloc: Global, table: &SubscriptionTable) -> Result<Vec<u8>, NoMemory> {
     Ok(told)
 }
 
+fn is_send_and_sync<T: Send + Sync>() {}
+
+#[test]
+fn plans_and_tables_may_be_shared_with_other_threads() {
+    is_send_and_sync::<SharedPlan>();
+    is_send_and_sync::<SubscriptionTable>();
+}
+
 #[test]
 fn subscriptions_are_found_by_their_numbers(rt: HostRuntime) -> Result<(), Fail> {
     let alloc = rt.alloc();
