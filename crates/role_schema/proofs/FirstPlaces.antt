@@ -10,7 +10,7 @@ next : {X : Type 0} (x : X) (xs : List X) (o : Option ℕ) →
 next x xs (Some at) = refl
 next x xs None = refl
 
-found_by : {X : Type 0} (x : X) (xs : List X) (o : Option ℕ) (f : Option X) (b : Bool) →
+pub found_by : {X : Type 0} (x : X) (xs : List X) (o : Option ℕ) (f : Option X) (b : Bool) →
     option_and_then (slice_get xs) o ≡ f →
     option_and_then (slice_get (x ∷ xs)) (if b then Some zero else option_map suc o) ≡ cond b (Some x) f
 found_by x xs o f true h = refl

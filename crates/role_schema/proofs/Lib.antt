@@ -1,6 +1,8 @@
+pub mod ColumnNames
 pub mod FirstPlaces
 pub mod Forms
 pub mod LinkNames
+pub mod NumberPlaces
 pub mod RoleNames
 pub mod Slots
 pub mod Soundness

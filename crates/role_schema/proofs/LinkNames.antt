@@ -54,7 +54,7 @@ none_found : (ys : List Text) → NewTo [] ys
 none_found [] = tt
 none_found (y ∷ ys) = (refl, none_found ys)
 
-distinct_once : (ys : List Text) → has_twice ys ≡ false → distinct ys ≡ ys
+pub distinct_once : (ys : List Text) → has_twice ys ≡ false → distinct ys ≡ ys
 distinct_once ys k = all_put [] ys (none_found ys) k
 
 abbrev link_by : Text → List LinkDef → Option LinkDef
@@ -120,12 +120,14 @@ one_of_five : (a b c d e : Bool) → (a || b || c || d || e) ≡ false → a ≡
 one_of_five false b c d e h = refl
 one_of_five true b c d e h = h
 
+pub own_field_names : (t : TableEntry) → repeats_a_name t ≡ false → has_twice (field_names t) ≡ false
+own_field_names t h =
+    one_of_five (has_twice (field_names t)) (has_twice t.key) (has_twice t.unique)
+    (list_any (λ p. has_twice p.columns) t.select) (has_twice (map (λ p. p.role) t.select)) h
+
 pub each_own_names : (tables ts : List TableEntry) → list_any repeats_a_name ts ≡ false →
     HaveOwnNames (map (link_defs tables) ts)
 each_own_names tables [] h = tt
 each_own_names tables (t ∷ ts) h =
     let parts = or_parts (repeats_a_name t) (list_any repeats_a_name ts) h in
-    let fields =
-    one_of_five (has_twice (field_names t)) (has_twice t.key) (has_twice t.unique)
-    (list_any (λ p. has_twice p.columns) t.select) (has_twice (map (λ p. p.role) t.select)) parts.0 in
-    (own_names tables t fields, each_own_names tables ts parts.1)
+    (own_names tables t (own_field_names t parts.0), each_own_names tables ts parts.1)

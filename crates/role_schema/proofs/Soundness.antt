@@ -32,6 +32,7 @@ use Rattle.role_model.specs.MetadataMeaning.{numbers_of, table_def, link_def, li
 use Rattle.role_model.specs.MetadataMeaning.{session_names, grant_of, grant_for, role_def, role_names, meaning_of}
 use Rattle.role_model.specs.MetadataMeaning.{judged_by, formed_by, parsed_by, toml_of, metadata_of, IsMetadata}
 use Rattle.role_model.specs.Texts.{Text}
+use Rattle.role_schema.proofs.ColumnNames.{HaveOwnTableNames, HaveOwnColumnNames, own_table_names, each_own_columns}
 use Rattle.role_schema.proofs.Forms.{LinkForm, TableForm, DocumentForm, document_form, same, steps_of}
 use Rattle.role_schema.proofs.LinkNames.{HaveOwnNames, each_own_names}
 use Rattle.role_schema.proofs.Slots.{Known, First, first, first_placed, read_fits}
@@ -399,14 +400,20 @@ pub metadata_is_sound : (m : Metadata) → IsMetadata m → Sound m
 metadata_is_sound m said =
     said_so (λ m. FewIn m → Sound m) (λ d form h few. meaning_sound d few form h) m said (roles_have_few_names m said)
 
-abbrev HasOwnNames : Metadata → Type 0
-HasOwnNames m = HaveOwnNames m.links
+-- No two tables have one name, nor two columns or two relationships of a table.
+pub record OwnNames (m : Metadata) : Type 0 where
+  pub tables : HaveOwnTableNames m.catalog.tables
+  pub columns : HaveOwnColumnNames m.catalog.tables
+  pub links : HaveOwnNames m.links
 
-own_names_where_faultless : (d : Document) → DocumentForm d → fault_of d ≡ None → HasOwnNames (meaning_of d)
+own_names_where_faultless : (d : Document) → DocumentForm d → fault_of d ≡ None → OwnNames (meaning_of d)
 own_names_where_faultless d form h =
-    each_own_names d.tables d.tables
-    (or_false (has_twice (flat_map root_names d.tables)) (list_any repeats_a_name d.tables) (faultless d h).once).1
+    let once = or_false (has_twice (flat_map root_names d.tables)) (list_any repeats_a_name d.tables) (faultless d h).once in
+    record {
+      tables = own_table_names d.tables once.0;
+      columns = each_own_columns d.tables once.1;
+      links = each_own_names d.tables d.tables once.1;
+    }
 
--- no two relationships of a table have one name
-pub links_have_own_names : (m : Metadata) → IsMetadata m → HaveOwnNames m.links
-links_have_own_names = said_so HasOwnNames own_names_where_faultless
+pub names_are_own : (m : Metadata) → IsMetadata m → OwnNames m
+names_are_own = said_so OwnNames own_names_where_faultless

@@ -1,5 +1,5 @@
 -- What sound metadata gives to each look-up.
-use Rattle.std.proofs.Common.{◌≡◌, ℕ, ◌≤◌, ◌==◌, zero, suc, Bool, true, false, Option, Some, None, List, [], ◌∷◌, length, IfSome, Bor, refl, subst, sym, cond, arith, find, ap, unwrap_or}
+use Rattle.std.proofs.Common.{◌≡◌, ℕ, ◌≤◌, ◌==◌, zero, suc, Bool, true, false, Option, Some, None, List, [], ◌∷◌, length, IfSome, Bor, refl, subst, sym, cond, arith, find, ap, ◌∙◌, unwrap_or, option_and_then}
 use Rattle.std.specs.List.{AllByRecursion, slice_get}
 use Rattle.std.specs.Option.{option_copied}
 use Rattle.std.specs.Str.{bytes_eq}
@@ -8,9 +8,10 @@ use Rattle.role_model.specs.declared.metadata.Grant.{Grant}
 use Rattle.role_model.specs.declared.metadata.LinkDef.{LinkDef}
 use Rattle.role_model.specs.declared.metadata.Metadata.{Metadata}
 use Rattle.role_model.specs.declared.metadata.RoleDef.{RoleDef}
-use Rattle.role_model.specs.Roles.{View, role_of, grants_by, grant_on, names_by, links_at, only_if}
+use Rattle.role_model.specs.Roles.{View, role_of, grants_by, grant_on, names_by, links_at, only_if, table_at, sees_column, column_seen}
+use Rattle.role_model.specs.JsonFilters.{column_number}
 use Rattle.role_model.specs.Texts.{Text}
-use Rattle.role_schema.specs.Sound.{Sound, SoundTable, SoundLink, SoundLinks, SoundGrant, SoundRole, FitsRows, columns_at}
+use Rattle.role_schema.specs.Sound.{Sound, SoundTable, SoundLink, SoundLinks, SoundGrant, SoundRole, FitsRows, columns_at, columns_in}
 
 Some-injective : {X : Type 0} {x y : X} → Some x ≡ Some y → x ≡ y
 Some-injective {X} {x} {y} e = ap (λ o. unwrap_or o x) e
@@ -42,6 +43,30 @@ few_tables m h = h.few_tables
 
 pub narrow_table : (m : Metadata) (at : ℕ) (t : TableDef) → Sound m → slice_get m.catalog.tables at ≡ Some t → length t.columns ≤ 64
 narrow_table m at t h e = (at_holds SoundTable m.catalog.tables at t h.tables e).few_columns
+
+narrow_at : (o : Option TableDef) → ((t : TableDef) → o ≡ Some t → length t.columns ≤ 64) → length (columns_in o) ≤ 64
+narrow_at (Some t) h = h t refl
+narrow_at None h = omega arith
+
+pub narrow_columns : (m : Metadata) (at : ℕ) → Sound m → length (columns_at m.catalog.tables at) ≤ 64
+narrow_columns m at h = narrow_at (slice_get m.catalog.tables at) (λ t e. narrow_table m at t h e)
+
+-- the number of a column, if it is seen, by the number that the name has
+pub seen_of_named : (v : View) (table : ℕ) (name : Text) (r : Option ℕ) →
+    r ≡ option_and_then (λ (t : TableDef). column_number t.columns name) (slice_get v.metadata.catalog.tables table) →
+    option_and_then (λ column. only_if (sees_column v table column) (Some column)) r ≡ column_seen v table name
+seen_of_named v table name r e =
+    ap (option_and_then (λ column. only_if (sees_column v table column) (Some column))) e
+    ∙ by_table (table_at v table)
+  where
+    by_table : (o : Option TableDef) →
+        option_and_then (λ column. only_if (sees_column v table column) (Some column))
+        (option_and_then (λ (t : TableDef). column_number t.columns name) o)
+        ≡ option_and_then
+        (λ (t : TableDef).
+        option_and_then (λ column. only_if (sees_column v table column) (Some column)) (column_number t.columns name)) o
+    by_table (Some t) = refl
+    by_table None = refl
 
 -- the relationships of one table
 

@@ -1,2 +1,5 @@
+pub mod ColumnNames
+pub mod GrantNumbers
 pub mod LinkNames
+pub mod Numbers
 pub mod Sound

@@ -1,8 +1,11 @@
 //! Metadata as it is read from its text, and what a role sees of the tables.
 #![tactic(auto)]
 
+mod columns;
+mod grants;
 mod links;
 mod meta;
+mod numbers;
 #[cfg(test)]
 mod tests;
 mod view;

@@ -1,18 +1,23 @@
-ghost use Rattle.std.specs.Prelude.{◌≡◌, ◌≤◌, length, map, find, option_and_then, slice_get, Some, Ok, Err, IfOk};
+ghost use Rattle.std.specs.Prelude.{◌≡◌, ◌≤◌, ◌<◌, length, map, find, option_and_then, slice_get, Some, Ok, Err, IfOk};
+ghost use Rattle.std.specs.Prelude.{IfSome, option_map, position};
 ghost use Rattle.std.specs.List.{AllByRecursion};
 ghost use Rattle.std.specs.Option.{option_copied};
 ghost use Rattle.std.specs.Str.{bytes_eq};
 ghost use Rattle.toml.specs.View.{table_view};
 ghost use Rattle.metadata_bounds.specs.Names.{ShortFilters};
 ghost use Rattle.role_model.specs.declared.metadata.Document.{Document};
+ghost use Rattle.role_model.specs.JsonFilters.{column_number};
 ghost use Rattle.role_model.specs.MetadataForm.{document_of};
 ghost use Rattle.role_model.specs.MetadataFaults.{fault_of};
 ghost use Rattle.role_model.specs.MetadataMeaning.{judged_by, formed_by, metadata_of, IsMetadata};
 ghost use Rattle.role_model.specs.Roles.{links_at};
-ghost use Rattle.role_schema.specs.Sound.{Sound, SoundTable};
+ghost use Rattle.role_schema.specs.GrantNumbers.{index_of};
+ghost use Rattle.role_schema.specs.Sound.{Sound, SoundTable, columns_at};
 
+use crate::columns::{column_names_of_all, table_names_of_all};
+use crate::grants::{GrantIndex, indexes_of_all};
 use crate::links::{link_at, names_of_all, place_at};
-use data_model::Catalog;
+use data_model::{Catalog, TableDef};
 use metadata_form::{FormFault, read_document, read_toml};
 use metadata_read::{Meaning, find_fault, read_meaning};
 use name_set::NameSet;
@@ -47,6 +52,15 @@ fn role_at(roles: &[RoleDef], place: Option<usize>) -> Option<&RoleDef>
 {
     match place {
         Some(at) => roles.get(at),
+        None => None,
+    }
+}
+
+fn index_at(indexes: &[GrantIndex], place: Option<usize>) -> Option<&GrantIndex>
+    ensures { option_copied result ≡ option_and_then (slice_get indexes.now) place }
+{
+    match place {
+        Some(at) => indexes.get(at),
         None => None,
     }
 }
@@ -93,12 +107,15 @@ fn read_metadata(alloc: Global, text: &[u8]) -> Result<Meaning, MetaReadFault>
 }
 
 /// Metadata that was read: tables, relationships, roles and settings. Contracts see what it says; some text says it. A
-/// role and a table's relationship are found in logarithmic time.
+/// table, a role, and a table's column and relationship are found in logarithmic time.
 #[derive(Debug, Drop)]
 pub struct Meta {
     said: Metadata,
     role_names: NameSet,
+    table_names: NameSet,
+    column_names: List<NameSet>,
     link_names: List<NameSet>,
+    grants: List<GrantIndex>,
 }
 
 impl Model for Meta {
@@ -114,10 +131,15 @@ impl Model for Meta {
     ghost view = { λ m. m.said };
 
     ghost use Rattle.std.specs.Prelude.{◌≡◌, map};
+    ghost use Rattle.role_schema.specs.ColumnNames.{names_in_table, names_of_tables};
+    ghost use Rattle.role_schema.specs.GrantNumbers.{index_of};
     ghost use Rattle.role_schema.specs.LinkNames.{names_of_links};
 
     ghost invariant = { λ m. IsMetadata m.said × (m.role_names ≡ map (λ r. r.name) m.said.roles)
-        × (m.link_names ≡ map names_of_links m.said.links) };
+        × (m.table_names ≡ names_of_tables m.said.catalog.tables)
+        × (m.column_names ≡ map names_in_table m.said.catalog.tables)
+        × (m.link_names ≡ map names_of_links m.said.links)
+        × (m.grants ≡ map index_of m.said.roles) };
 }
 
 impl Meta {
@@ -134,11 +156,17 @@ impl Meta {
                     metadata: said,
                     role_names,
                 } = meaning;
+                let table_names = table_names_of_all(alloc, said.catalog.tables.as_slice())?;
+                let column_names = column_names_of_all(alloc, said.catalog.tables.as_slice())?;
                 let link_names = names_of_all(alloc, said.links.as_slice())?;
+                let grants = indexes_of_all(alloc, said.roles.as_slice())?;
                 Ok(Meta {
                     said,
                     role_names,
+                    table_names,
+                    column_names,
                     link_names,
+                    grants,
                 })
             }
             Err(fault) => Err(fault),
@@ -213,6 +241,30 @@ impl Meta {
         ensures { option_copied result ≡ find (λ r. bytes_eq name.now r.name) self.now.roles }
     {
         role_at(self.said.roles.as_slice(), self.role_names.place(name))
+    }
+
+    /// The index of a role's permissions.
+    pub(crate) fn grants_named(&self, name: &str) -> Option<&GrantIndex>
+        ensures { option_copied result ≡ option_map index_of (find (λ r. bytes_eq name.now r.name) self.now.roles) }
+    {
+        index_at(self.grants.as_slice(), self.role_names.place(name))
+    }
+
+    /// The number of the table of a name.
+    pub(crate) fn table_number(&self, name: &str) -> Option<usize>
+        ensures value { result ≡ position (λ (t : TableDef). bytes_eq name.now t.name) self.now.catalog.tables }
+        ensures bound { IfSome result (λ at. at < length self.now.catalog.tables) }
+    {
+        self.table_names.place(name)
+    }
+
+    /// The number of the column of a name of the table of a number.
+    pub(crate) fn column_number(&self, table: u32, name: &str) -> Option<usize>
+        ensures value { result
+            ≡ option_and_then (λ (t : TableDef). column_number t.columns name.now) (slice_get self.now.catalog.tables table) }
+        ensures bound { IfSome result (λ at. at < length (columns_at self.now.catalog.tables table)) }
+    {
+        place_at(self.column_names.get(table as usize), name)
     }
 
     /// The relationship of a name of the table of a number.

@@ -7,11 +7,14 @@ ghost use Rattle.role_model.specs.JsonFilters.{column_number};
 ghost use Rattle.role_model.specs.MetadataMeaning.{IsMetadata};
 ghost use Rattle.role_schema.specs.Sound.{Sound, SoundLink, FitsRows, columns_at};
 ghost use Rattle.role_model.specs.Roles.{is_admin, role_of, grants_by, grant_on, table_at, sees_table, table_seen};
-ghost use Rattle.role_model.specs.Roles.{only_if, grants_column, sees_column, column_seen, links_at, link_seen};
+ghost use Rattle.role_model.specs.Roles.{only_if, sees_column, column_seen, links_at, link_seen};
 ghost use Rattle.role_model.specs.Roles.{key_seen, filter_seen, cap_seen, names_by, session_name_seen};
+ghost use Rattle.role_schema.specs.GrantNumbers.{index_of, tables_of};
+ghost use Rattle.role_schema.specs.Numbers.{first_number};
 
+use crate::grants::GrantIndex;
 use crate::meta::Meta;
-use data_model::{Catalog, Column, TableDef};
+use data_model::{Catalog, TableDef};
 use plan_model::Filter;
 use role_model::{Grant, LinkDef, RoleDef};
 use scalar_val::Str;
@@ -24,6 +27,7 @@ pub struct RoleView<'a> {
     meta: &'a Meta,
     role: &'a str,
     def: Option<&'a RoleDef>,
+    grants: Option<&'a GrantIndex>,
 }
 
 impl<'a> Model for RoleView<'a> {
@@ -38,11 +42,14 @@ impl<'a> Model for RoleView<'a> {
 
     ghost view = { λ v. record { metadata = v.meta.now; role = v.role.now } };
 
-    ghost use Rattle.std.specs.Prelude.{◌≡◌};
+    ghost use Rattle.std.specs.Prelude.{◌≡◌, option_map};
     ghost use Rattle.std.specs.Option.{option_copied};
     ghost use Rattle.role_model.specs.Roles.{role_of};
+    ghost use Rattle.role_schema.specs.GrantNumbers.{index_of};
 
-    ghost invariant = { λ v. option_copied v.def ≡ role_of (record { metadata = v.meta.now; role = v.role.now }) };
+    ghost invariant = { λ v. (option_copied v.def ≡ role_of (record { metadata = v.meta.now; role = v.role.now }))
+        × (option_copied v.grants
+        ≡ option_map index_of (role_of (record { metadata = v.meta.now; role = v.role.now }))) };
 }
 
 impl Meta {
@@ -51,50 +58,23 @@ impl Meta {
         ensures { result ≡ record { metadata = self.now; role = role.now } }
     {
         let def = self.role_named(role);
+        let grants = self.grants_named(role);
         RoleView {
             meta: self,
             role,
             def,
+            grants,
         }
     }
 }
 
-fn place_of_table(tables: &[TableDef], name: &str) -> Option<usize>
-    ensures value { result ≡ position (λ (t : TableDef). bytes_eq name.now t.name) tables.now }
-    ensures bound { IfSome result (λ at. at < length tables.now) }
+fn grant_at(grants: &[Grant], place: Option<usize>) -> Option<&Grant>
+    ensures { option_copied result ≡ option_and_then (slice_get grants.now) place }
 {
-    tables.iter().position(|table| name == table.name.as_str())
-}
-
-fn place_of_column(columns: &[Column], name: &str) -> Option<usize>
-    ensures value { result ≡ column_number columns.now name.now }
-    ensures bound { IfSome result (λ at. at < length columns.now) }
-{
-    columns
-        .iter()
-        .position(|column| name == column.name.as_str())
-}
-
-fn grant_by(grants: &[Grant], table: u32) -> Option<&Grant>
-    ensures { option_copied result ≡ find (λ g. g.table == table) grants.now }
-{
-    for grant in grants {
-        if grant.table == table {
-            return Some(grant);
-        }
+    match place {
+        Some(at) => grants.get(at),
+        None => None,
     }
-    None
-}
-
-fn has_column(columns: &[u32], column: u32) -> bool
-    ensures { result ≡ list_any (λ c. c == column) columns.now }
-{
-    for known in columns {
-        if *known == column {
-            return true;
-        }
-    }
-    false
 }
 
 impl<'a> RoleView<'a> {
@@ -124,11 +104,27 @@ impl<'a> RoleView<'a> {
         self.def
     }
 
+    fn grants(&self) -> Option<&'a GrantIndex>
+        ensures { option_copied result ≡ option_map index_of (role_of self.now) }
+    {
+        self.grants
+    }
+
+    fn grant_place(&self, table: u32) -> Option<usize>
+        ensures { result ≡ option_and_then (λ (r : RoleDef). first_number (tables_of r.grants) table) (role_of self.now) }
+    {
+        match self.grants() {
+            Some(grants) => grants.place(table),
+            None => None,
+        }
+    }
+
+    #[tactic(auto, using(crate::proofs::NumberPlaces::grant_of_role))]
     fn grant(&self, table: u32) -> Option<&'a Grant>
         ensures { option_copied result ≡ grant_on self.now table }
     {
         match self.role() {
-            Some(role) => grant_by(role.grants.as_slice(), table),
+            Some(role) => grant_at(role.grants.as_slice(), self.grant_place(table)),
             None => None,
         }
     }
@@ -142,14 +138,15 @@ impl<'a> RoleView<'a> {
         self.grant(table).is_some()
     }
 
+    #[tactic(auto, using(crate::proofs::NumberPlaces::column_of_role))]
     fn sees_column(&self, table: u32, column: u32) -> bool
         ensures { result ≡ sees_column self.now table column }
     {
         if self.is_admin() {
             return true;
         }
-        match self.grant(table) {
-            Some(grant) => has_column(grant.columns.as_slice(), column),
+        match self.grants() {
+            Some(grants) => grants.has_column(table, column),
             None => false,
         }
     }
@@ -160,7 +157,8 @@ impl<'a> RoleView<'a> {
         ensures value { result ≡ table_seen self.now name.now }
         ensures range { IfSome result (λ t. t < length self.now.metadata.catalog.tables) }
     {
-        match place_of_table(self.meta.said().catalog.tables.as_slice(), name) {
+        self.sound();
+        match self.meta.table_number(name) {
             Some(at) => {
                 let table = at as u32;
                 if self.sees_table(table) {
@@ -190,22 +188,21 @@ impl<'a> RoleView<'a> {
     }
 
     /// The number of the column of a name in the table of a number.
+    #[tactic(auto, using(crate::proofs::Uses::seen_of_named, crate::proofs::Uses::narrow_columns))]
     pub fn column(&self, table: u32, name: &str) -> Option<u32>
         ensures value { result ≡ column_seen self.now table name.now }
         ensures range { IfSome result (λ c. c < length (columns_at self.now.metadata.catalog.tables table)) }
     {
-        match self.table_def(table) {
-            Some(def) => match place_of_column(def.columns.as_slice(), name) {
-                Some(at) => {
-                    let column = at as u32;
-                    if self.sees_column(table, column) {
-                        Some(column)
-                    } else {
-                        None
-                    }
+        self.sound();
+        match self.meta.column_number(table, name) {
+            Some(at) => {
+                let column = at as u32;
+                if self.sees_column(table, column) {
+                    Some(column)
+                } else {
+                    None
                 }
-                None => None,
-            },
+            }
             None => None,
         }
     }

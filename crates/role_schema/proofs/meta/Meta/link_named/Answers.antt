@@ -7,7 +7,7 @@ use Rattle.role_model.specs.declared.metadata.LinkDef.{LinkDef}
 use Rattle.role_model.specs.declared.metadata.Metadata.{Metadata}
 use Rattle.role_model.specs.Roles.{links_at}
 use Rattle.role_schema.proofs.LinkNames.{link_found}
-use Rattle.role_schema.proofs.Soundness.{links_have_own_names}
+use Rattle.role_schema.proofs.Soundness.{names_are_own}
 use Rattle.role_schema.proofs.meta.Meta.link_named.Goals as goal
 
 pub returns : goal.returns
@@ -20,6 +20,6 @@ returns c =
     let got = c.link_at.ensures
     ∙ ap (λ (ls : Option (List LinkDef)). option_and_then (slice_get (links_at ls)) at) c.get-2.ensures.value in
     link_found name said.links c.self.inside.link_names table at (option_copied c.link_at.result)
-    (links_have_own_names said c.self.invariant.0) c.self.invariant.2 place got
+    (names_are_own said c.self.invariant.0).links c.self.invariant.4 place got
     ∙ ap (λ (m : Metadata). find (λ (l : LinkDef). bytes_eq name l.name) (links_at (slice_get m.links table)))
     c.self.view_is
