@@ -13,3 +13,4 @@ pub mod Rehoming
 pub mod Entering
 pub mod Steps
 pub mod Living
+pub mod Listing

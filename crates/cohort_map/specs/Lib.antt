@@ -5,3 +5,4 @@ pub mod Batches
 pub mod Indexed
 pub mod Seats
 pub mod Choice
+pub mod Listed

@@ -4,10 +4,12 @@
 mod choice;
 mod key;
 mod keys;
+mod listed;
 mod map;
 mod member;
 mod order;
 mod seat;
+mod seats;
 #[cfg(test)]
 mod tests;
 

@@ -11,10 +11,8 @@ use crate::key::{CohortKey, PollerKey};
 use crate::keys::Keys;
 use crate::member::{MemberList, SubList};
 use crate::order::copy_key;
-use crate::seat::{
-    ReadySeat, Seat, close, cohort_of, count_due, count_live, drop_empty_end, end, has_seat,
-    is_busy, is_live, live_in, move_to, open, tick,
-};
+use crate::seat::{ReadySeat, Seat, cohort_of, count_due, count_live, has_seat, is_live};
+use crate::seats::Seats;
 use plan_core::Binding;
 use scalar_val::{NoMemory, Val, cmp, copy_val};
 use std::alloc::Global;
@@ -32,18 +30,6 @@ fn key_with(alloc: Global, key: &CohortKey, cursor: &Val) -> Result<CohortKey, N
         cursor: copy_val(alloc, cursor)?,
     };
     Ok(CohortKey { poller, binding })
-}
-
-/// Makes sure that there is a flag for each of so many cohorts and one more.
-fn make_flag(flags: &mut Vec<bool>, count: usize) -> Result<(), NoMemory>
-    requires { count ≤ length flags.old.items }
-    ensures ok { OnOk result (count < length flags.new.items) }
-    ensures kept { length flags.old.items ≤ length flags.new.items }
-{
-    if flags.len() == count {
-        flags.push(false)?;
-    }
-    Ok(())
 }
 
 /// Whether a ready seat is that of a number and a cursor.
@@ -91,8 +77,7 @@ fn ready_cohort_at(keys: &Keys, ready: &[ReadySeat], place: usize, sub: u64, cur
 #[derive(Drop)]
 pub struct CohortMap {
     keys: Keys,
-    seats: Vec<Seat>,
-    busy: Vec<bool>,
+    seats: Seats,
     ready: Vec<ReadySeat>,
     /// How many moves were made since the list of ready ones was empty: the place of the next one, where they are made in
     /// the order in which they were made ready.
@@ -107,9 +92,9 @@ impl Model for CohortMap {
 
     ghost use Rattle.cohort_map.specs.Seats.{held, IsSeated};
 
-    ghost view = { λ m. held m.keys m.seats.items m.ready.items };
+    ghost view = { λ m. held m.keys m.seats.seats m.ready.items };
 
-    ghost invariant = { λ m. IsSeated m.keys m.seats.items m.ready.items × (length m.keys ≤ length m.busy.items) };
+    ghost invariant = { λ m. IsSeated m.keys m.seats.seats m.ready.items × (length m.keys ≤ m.seats.cohorts) };
 }
 
 impl CohortMap {
@@ -123,8 +108,7 @@ impl CohortMap {
     {
         CohortMap {
             keys: Keys::new(alloc),
-            seats: Vec::new(alloc),
-            busy: Vec::new(alloc),
+            seats: Seats::new(alloc),
             ready: Vec::new(alloc),
             moved: 0,
         }
@@ -145,9 +129,9 @@ impl CohortMap {
         ensures err { OnErr result (self.new.entries ≡ self.old.entries) }
         ensures ready { self.new.ready ≡ self.old.ready }
     {
-        make_flag(&mut self.busy, self.keys.len())?;
+        self.seats.make_cohort(self.keys.len())?;
         let cohort = self.keys.place_of(alloc, CohortKey { poller, binding })?;
-        drop_empty_end(&mut self.seats);
+        self.seats.drop_empty_end();
         self.seats.push(Seat {
             number: sub,
             cohort,
@@ -165,28 +149,28 @@ impl CohortMap {
         ensures ready { self.new.ready ≡ self.old.ready }
         ensures answer { result ≡ has sub self.old.entries }
     {
-        end(&mut self.seats, sub)
+        self.seats.end(sub)
     }
 
     /// Whether a number is in the map. It takes no memory.
     pub fn has(&self, sub: u64) -> bool
         ensures { result ≡ has sub self.now.entries }
     {
-        has_seat(&self.seats, sub)
+        has_seat(self.seats.as_slice(), sub)
     }
 
     /// Whether a number is in the map and its subscription live. It takes no memory.
     pub fn lives(&self, sub: u64) -> bool
         ensures { result ≡ has_live sub self.now.entries }
     {
-        is_live(&self.seats, sub)
+        is_live(self.seats.as_slice(), sub)
     }
 
     /// How many subscriptions are live. It takes no memory.
     pub fn live_count(&self) -> u64
         ensures { result ≡ live_count self.now.entries }
     {
-        count_live(&self.seats)
+        count_live(self.seats.as_slice())
     }
 
     /// The numbers ascend, so that none stands twice, and each entry is live or a member of an open job.
@@ -194,14 +178,14 @@ impl CohortMap {
         ensures numbers { IsStrictlySortedBy nat_cmp (numbers self.now.entries) }
         ensures kept { All (λ e. if_kept e ≡ Some e) self.now.entries }
     {
-        let _ = self.seats.len();
+        let _ = self.seats.as_slice();
     }
 
     /// The values that a subscription's plan is run with, or `None` where the number isn't in the map. It takes no memory.
     pub fn binding_of(&self, sub: u64) -> Option<&Binding>
         ensures { option_copied result ≡ option_map (λ e. e.binding) (entry_at sub self.now.entries) }
     {
-        match cohort_of(&self.seats, sub) {
+        match cohort_of(self.seats.as_slice(), sub) {
             Some(cohort) => Some(&self.keys.get(cohort).binding),
             None => None,
         }
@@ -212,8 +196,8 @@ impl CohortMap {
         ensures { IfOk result (λ subs. subs ≡ members_with sub self.now.entries) }
     {
         self.keys.apart();
-        match cohort_of(&self.seats, sub) {
-            Some(cohort) => live_in(alloc, &self.seats, cohort),
+        match cohort_of(self.seats.as_slice(), sub) {
+            Some(cohort) => self.seats.live_in(alloc, cohort),
             None => Ok(SubList::new(alloc)),
         }
     }
@@ -224,8 +208,8 @@ impl CohortMap {
         ensures { result ≡ is_busy_by self.now.entries (entry_at sub self.now.entries) }
     {
         self.keys.apart();
-        match cohort_of(&self.seats, sub) {
-            Some(cohort) => is_busy(&self.seats, cohort),
+        match cohort_of(self.seats.as_slice(), sub) {
+            Some(cohort) => self.seats.is_busy(cohort),
             None => false,
         }
     }
@@ -238,14 +222,14 @@ impl CohortMap {
         ensures answer { result ≡ due_count self.new.entries }
     {
         self.keys.apart();
-        tick(&mut self.seats, &mut self.busy)
+        self.seats.tick()
     }
 
     /// How many subscriptions are due. It takes no memory.
     pub fn due(&self) -> u64
         ensures { result ≡ due_count self.now.entries }
     {
-        count_due(&self.seats)
+        count_due(self.seats.as_slice())
     }
 
     /// The members of the next job: the poller is that of the least due number, its cohorts with a due member stand in the
@@ -256,7 +240,7 @@ impl CohortMap {
         ensures { IfOk result (λ members. members ≡ batch_of limit self.now.entries) }
     {
         self.keys.apart();
-        batch_of(alloc, &self.keys, &self.seats, limit)
+        batch_of(alloc, &self.keys, self.seats.as_slice(), limit)
     }
 
     /// Marks the members of a job with it; they are no longer due. It takes no memory.
@@ -264,7 +248,7 @@ impl CohortMap {
         ensures entries { self.new.entries ≡ opened job members.now self.old.entries }
         ensures ready { self.new.ready ≡ self.old.ready }
     {
-        open(&mut self.seats, job, members.as_slice())
+        self.seats.open(job, members.as_slice())
     }
 
     /// Takes the marks of a job away. Its live members become due where `due` is true, and its ended ones are dropped. It takes
@@ -273,7 +257,7 @@ impl CohortMap {
         ensures entries { self.new.entries ≡ closed job due self.old.entries }
         ensures ready { self.new.ready ≡ self.old.ready }
     {
-        close(&mut self.seats, job, due)
+        self.seats.close(job, due)
     }
 
     /// Makes it ready that a stream is moved to a cursor, which changes no entry. It needs the number of a stream of the map:
@@ -284,8 +268,8 @@ impl CohortMap {
         ensures ok { OnOk result (self.new.ready ≡ self.old.ready ++ record { number = sub; cursor = cursor.now } ∷ []) }
         ensures err { OnErr result (self.new.ready ≡ self.old.ready) }
     {
-        make_flag(&mut self.busy, self.keys.len())?;
-        let before = match cohort_of(&self.seats, sub) {
+        self.seats.make_cohort(self.keys.len())?;
+        let before = match cohort_of(self.seats.as_slice(), sub) {
             Some(cohort) => self.keys.get(cohort),
             None => unreachable!(),
         };
@@ -307,7 +291,7 @@ impl CohortMap {
     {
         let cohort = ready_cohort_at(&self.keys, &self.ready, self.moved, sub, cursor);
         self.moved = self.moved.saturating_add(1);
-        move_to(&mut self.seats, sub, cohort);
+        self.seats.move_to(sub, cohort);
     }
 
     /// Empties the list of ready pairs. It takes no memory.

@@ -1,9 +1,9 @@
-ghost use Rattle.std.specs.Prelude.{◌≡◌, ◌<◌, ◌≤◌, ◌||◌, ℕ, Bool, true, false, Some, None, map, filter, find, filter_map, length, take, drop, slice_get, slice_index_or, IfOk, IfSome, IfNone};
+ghost use Rattle.std.specs.Prelude.{◌≡◌, ◌<◌, ◌≤◌, ◌||◌, ℕ, Bool, true, false, Some, None, map, filter, find, filter_map, length, take, drop, slice_get, slice_index_or, IfOk, IfSome, IfNone, OnOk};
 ghost use Rattle.std.specs.List.{list_any, AllByRecursion};
 ghost use Rattle.cohort_map.specs.Batches.{is_job};
 ghost use Rattle.cohort_map.specs.Seats.{Rise, HasSeat, IsCohortOf, IsCut, AreEmpty, EndsKept, AreBelow, AreFrom, is_kept, is_at, is_live_at, at, seat_live, seat_numbers, seat_ended, seat_marked, seat_opened, seat_closed, seat_due, seat_due_by, seat_moved, seat_ticked, IsWithin, is_live_in, is_cohort_busy, has_job_in, member_seen};
 
-use crate::member::{Member, MemberList, SubList};
+use crate::member::SubList;
 use scalar_val::NoMemory;
 use std::alloc::Global;
 
@@ -144,31 +144,6 @@ pub(crate) fn end(seats: &mut [Seat], number: u64) -> bool
     }
 }
 
-/// Marks a number's seat, if it isn't empty, with a job; it is no longer due.
-fn mark(seats: &mut [Seat], job: u64, number: u64)
-    requires { Rise seats.old }
-    ensures { seats.new ≡ map (at number (seat_marked job)) seats.old }
-{
-    if let Some(place) = find_seat(seats, number) {
-        let seat = seats[place];
-        seats[place] = Seat {
-            job: Some(job),
-            due: false,
-            ..seat
-        };
-    }
-}
-
-/// Marks the seats of a job's members.
-pub(crate) fn open(seats: &mut [Seat], job: u64, members: &[Member])
-    requires { Rise seats.old }
-    ensures { seats.new ≡ map (seat_opened job members.now) seats.old }
-{
-    for member in members {
-        mark(seats, job, member.sub);
-    }
-}
-
 fn is_of_job(seat: &Seat, job: u64) -> bool
     ensures { result ≡ is_job job seat.now.job }
 {
@@ -178,7 +153,7 @@ fn is_of_job(seat: &Seat, job: u64) -> bool
     }
 }
 
-fn closed(seat: Seat, job: u64, due: bool) -> Seat
+pub(crate) fn closed(seat: Seat, job: u64, due: bool) -> Seat
     ensures { result ≡ seat_closed job due seat }
 {
     if is_of_job(&seat, job) {
@@ -201,15 +176,16 @@ pub(crate) fn close(seats: &mut [Seat], job: u64, due: bool)
     }
 }
 
-/// Moves a number's seat, if it isn't empty, to the cohort of another key.
-pub(crate) fn move_to(seats: &mut [Seat], number: u64, cohort: usize)
-    requires { Rise seats.old }
-    ensures { seats.new ≡ map (at number (seat_moved cohort)) seats.old }
+/// Makes sure that there is a flag for each of so many cohorts and one more.
+pub(crate) fn make_flag(flags: &mut Vec<bool>, count: usize) -> Result<(), NoMemory>
+    requires { count ≤ length flags.old.items }
+    ensures ok { OnOk result (count < length flags.new.items) }
+    ensures kept { length flags.old.items ≤ length flags.new.items }
 {
-    if let Some(place) = find_seat(seats, number) {
-        let seat = seats[place];
-        seats[place] = Seat { cohort, ..seat };
+    if flags.len() == count {
+        flags.push(false)?;
     }
+    Ok(())
 }
 
 fn clear(flags: &mut [bool])

@@ -1,49 +1,68 @@
-use Rattle.std.proofs.Common.{◌∙◌, ◌<◌, List, ap, sym, subst, arith}
+use Rattle.std.proofs.Common.{◌∙◌, ◌<◌, List, ap, sym, subst, length, arith}
 use Rattle.std.specs.List.{All}
 use Rattle.cohort_map.specs.declared.seat.Seat.{Seat}
 use Rattle.cohort_map.specs.Entries.{Held, Entry, Ready}
-use Rattle.cohort_map.specs.Seats.{IsSeated, entries_of}
+use Rattle.cohort_map.specs.Seats.{IsSeated, IsCut, IsWithin, IsSound, entries_of}
+use Rattle.cohort_map.proofs.Alls.{all_weaker}
 use Rattle.cohort_map.proofs.Entering.{on_err, kept_seated, kept_seen, kept_ready, new_seated, new_seen}
+use Rattle.cohort_map.proofs.Rehoming.{got_within}
 use Rattle.cohort_map.proofs.map.CohortMap.join.Goals as goal
+
+pub make_cohort-requires-clause-count : goal.make_cohort-requires-clause-count
+make_cohort-requires-clause-count c = let few = c.self.invariant.1 in omega (arith, c.len.ensures)
+
+pub make_cohort-requires-clause-within : goal.make_cohort-requires-clause-within
+make_cohort-requires-clause-within c =
+    all_weaker (IsSound (length c.self.inside.keys)) (IsWithin c.len.result)
+    (λ s sound. let within = sound.within in omega (arith, c.len.ensures)) c.self.inside.seats.seats c.self.invariant.0.sound
+
+pub push-requires-clause-within : goal.push-requires-clause-within
+push-requires-clause-within c =
+    let within = got_within c.place_of.new.self c.in_ok-cohort.cohort _ c.in_ok-cohort.ensures.place in
+    omega (arith, c.len.ensures, c.in_ok-make_cohort.ensures.ok, c.in_ok-cohort.ensures.most, c.drop_empty_end.ensures.cohorts)
 
 pub invariant_of-self-in_err-push : goal.invariant_of-self-in_err-push
 invariant_of-self-in_err-push c =
     let more = c.place_of.new.self in
-    let kept = kept_seated c.self.inside.keys more c.self.inside.seats.items c.drop_empty_end.new.seats.items c.self.inside.ready.items c.in_ok-cohort.ensures.stay c.in_ok-cohort.ensures.grows c.drop_empty_end.ensures.cut c.self.invariant.0 in (
-      subst (λ (ss : List Seat). IsSeated more ss c.self.inside.ready.items) (sym c.in_err-push.ensures.items) kept,
-      omega (arith, c.len.ensures, c.in_ok-make_flag.ensures.ok, c.in_ok-cohort.ensures.most),
+    let cut = subst (λ (ss : List Seat). IsCut ss c.drop_empty_end.new.self.seats) c.make_cohort.ensures.seats c.drop_empty_end.ensures.cut in
+    let kept = kept_seated c.self.inside.keys more c.self.inside.seats.seats c.drop_empty_end.new.self.seats c.self.inside.ready.items c.in_ok-cohort.ensures.stay c.in_ok-cohort.ensures.grows cut c.self.invariant.0 in (
+      subst (λ (ss : List Seat). IsSeated more ss c.self.inside.ready.items) (sym c.in_err-push.ensures.err) kept,
+      omega (arith, c.len.ensures, c.in_ok-make_cohort.ensures.ok, c.in_ok-cohort.ensures.most, c.drop_empty_end.ensures.cohorts, c.push.ensures.cohorts),
     )
 
 pub returns-in_err-push-clause-err : goal.returns-in_err-push-clause-err
 returns-in_err-push-clause-err c =
     let more = c.place_of.new.self in
-    let same = kept_seen c.self.inside.keys more c.self.inside.seats.items c.drop_empty_end.new.seats.items c.self.inside.ready.items c.in_ok-cohort.ensures.stay c.drop_empty_end.ensures.cut c.self.invariant.0 in
-    on_err c.from_residual-in_err-push.result _ (ap (entries_of more) c.in_err-push.ensures.items ∙ same ∙ ap (λ (h : Held). h.entries) c.self.view_is)
+    let cut = subst (λ (ss : List Seat). IsCut ss c.drop_empty_end.new.self.seats) c.make_cohort.ensures.seats c.drop_empty_end.ensures.cut in
+    let same = kept_seen c.self.inside.keys more c.self.inside.seats.seats c.drop_empty_end.new.self.seats c.self.inside.ready.items c.in_ok-cohort.ensures.stay cut c.self.invariant.0 in
+    on_err c.from_residual-in_err-push.result _ (ap (entries_of more) c.in_err-push.ensures.err ∙ same ∙ ap (λ (h : Held). h.entries) c.self.view_is)
 
 pub returns-in_err-push-clause-ready : goal.returns-in_err-push-clause-ready
 returns-in_err-push-clause-ready c =
-    kept_ready c.self.inside.keys c.place_of.new.self c.self.inside.seats.items c.self.inside.ready.items c.in_ok-cohort.ensures.stay c.self.invariant.0
+    kept_ready c.self.inside.keys c.place_of.new.self c.self.inside.seats.seats c.self.inside.ready.items c.in_ok-cohort.ensures.stay c.self.invariant.0
     ∙ ap (λ (h : Held). h.ready) c.self.view_is
 
 pub invariant_of-self-2 : goal.invariant_of-self-2
 invariant_of-self-2 c =
     let more = c.place_of.new.self in
+    let cut = subst (λ (ss : List Seat). IsCut ss c.drop_empty_end.new.self.seats) c.make_cohort.ensures.seats c.drop_empty_end.ensures.cut in
     let above = subst (λ (h : Held). All (λ (e : Entry). e.number < c.args.sub) h.entries) (sym c.self.view_is) c.requires.above in
     let apart = subst (λ (h : Held). All (λ (r : Ready). r.number < c.args.sub) h.ready) (sym c.self.view_is) c.requires.apart in
-    let seated = new_seated c.self.inside.keys more c.self.inside.seats.items c.drop_empty_end.new.seats.items c.self.inside.ready.items c.args.sub c.in_ok-cohort.cohort
-    (record { poller = c.args.poller; binding = c.args.binding }) c.in_ok-cohort.ensures.stay c.in_ok-cohort.ensures.grows c.drop_empty_end.ensures.cut c.drop_empty_end.ensures.end c.in_ok-cohort.ensures.place above apart c.self.invariant.0 in (
-      subst (λ (ss : List Seat). IsSeated more ss c.self.inside.ready.items) (sym c.in_ok-push.ensures.items) seated,
-      omega (arith, c.len.ensures, c.in_ok-make_flag.ensures.ok, c.in_ok-cohort.ensures.most),
+    let seated = new_seated c.self.inside.keys more c.self.inside.seats.seats c.drop_empty_end.new.self.seats c.self.inside.ready.items c.args.sub c.in_ok-cohort.cohort
+    (record { poller = c.args.poller; binding = c.args.binding }) c.in_ok-cohort.ensures.stay c.in_ok-cohort.ensures.grows cut c.drop_empty_end.ensures.end c.in_ok-cohort.ensures.place above apart c.self.invariant.0 in (
+      subst (λ (ss : List Seat). IsSeated more ss c.self.inside.ready.items) (sym c.in_ok-push.ensures.ok) seated,
+      omega (arith, c.len.ensures, c.in_ok-make_cohort.ensures.ok, c.in_ok-cohort.ensures.most, c.drop_empty_end.ensures.cohorts, c.push.ensures.cohorts),
     )
 
 pub returns-clause-ok : goal.returns-clause-ok
 returns-clause-ok c =
     let more = c.place_of.new.self in
-    let joined = new_seen c.self.inside.keys more c.self.inside.seats.items c.drop_empty_end.new.seats.items c.self.inside.ready.items c.args.sub c.in_ok-cohort.cohort
-    (record { poller = c.args.poller; binding = c.args.binding }) c.in_ok-cohort.ensures.stay c.drop_empty_end.ensures.cut c.in_ok-cohort.ensures.place c.self.invariant.0 in
-    rw (← c.self.view_is) (ap (entries_of more) c.in_ok-push.ensures.items ∙ joined)
+    let cut = subst (λ (ss : List Seat). IsCut ss c.drop_empty_end.new.self.seats) c.make_cohort.ensures.seats c.drop_empty_end.ensures.cut in
+    let joined = new_seen c.self.inside.keys more c.self.inside.seats.seats c.drop_empty_end.new.self.seats c.self.inside.ready.items c.args.sub c.in_ok-cohort.cohort
+    (record { poller = c.args.poller; binding = c.args.binding }) c.in_ok-cohort.ensures.stay cut c.in_ok-cohort.ensures.place c.self.invariant.0 in
+    rw (← c.self.view_is) (ap (entries_of more) c.in_ok-push.ensures.ok ∙ joined)
 
 pub returns-clause-ready : goal.returns-clause-ready
 returns-clause-ready c =
-    kept_ready c.self.inside.keys c.place_of.new.self c.self.inside.seats.items c.self.inside.ready.items c.in_ok-cohort.ensures.stay c.self.invariant.0
+    kept_ready c.self.inside.keys c.place_of.new.self c.self.inside.seats.seats c.self.inside.ready.items c.in_ok-cohort.ensures.stay c.self.invariant.0
     ∙ ap (λ (h : Held). h.ready) c.self.view_is

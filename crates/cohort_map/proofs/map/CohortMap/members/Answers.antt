@@ -9,13 +9,13 @@ use Rattle.cohort_map.proofs.map.CohortMap.members.Goals as goal
 pub returns-in-Some : goal.returns-in-Some
 returns-in-Some c =
     let keys = c.self.inside.keys in
-    let seats = c.self.inside.seats.items in
+    let seats = c.self.inside.seats.seats in
     let cohort = c.in-Some.cohort in
-    let of : IsCohortOf c.args.sub seats cohort = rw (← c.deref.ensures.value) c.in-Some.ensures.some in
+    let of : IsCohortOf c.args.sub seats cohort = rw (← c.as_slice.ensures) c.in-Some.ensures.some in
     let is = members_is keys c.args.sub seats cohort c.apart.ensures (within_of (length keys) seats c.self.invariant.0.sound) of in
-    let listed : IfOk c.live_in.result (λ subs. subs ≡ seat_numbers (filter (is_live_in cohort) seats)) = rw (← c.deref-in-Some.ensures.value) c.live_in.ensures in
+    let listed : IfOk c.live_in.result (λ subs. subs ≡ seat_numbers (filter (is_live_in cohort) seats)) = c.live_in.ensures in
     rw (← c.self.view_is) (subst (λ (ns : List ℕ). IfOk c.live_in.result (λ subs. subs ≡ ns)) is listed)
 
 pub returns-in-None : goal.returns-in-None
 returns-in-None c =
-    rw (← c.self.view_is) (c.new.ensures ∙ ap (members_by (entries_of c.self.inside.keys c.self.inside.seats.items)) (sym (entry_none c.self.inside.keys c.args.sub c.self.inside.seats.items (within_of (length c.self.inside.keys) c.self.inside.seats.items c.self.invariant.0.sound) (rw (← c.deref.ensures.value) c.in-None.ensures.none))))
+    rw (← c.self.view_is) (c.new.ensures ∙ ap (members_by (entries_of c.self.inside.keys c.self.inside.seats.seats)) (sym (entry_none c.self.inside.keys c.args.sub c.self.inside.seats.seats (within_of (length c.self.inside.keys) c.self.inside.seats.seats c.self.invariant.0.sound) (rw (← c.as_slice.ensures) c.in-None.ensures.none))))

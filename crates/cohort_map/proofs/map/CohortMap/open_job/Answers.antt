@@ -1,15 +1,14 @@
-use Rattle.std.proofs.Common.{◌∙◌, drop, length}
-use Rattle.cohort_map.proofs.Alls.{whole}
 use Rattle.cohort_map.proofs.Seated.{opened_seated}
 use Rattle.cohort_map.proofs.Views.{opened_seen}
 use Rattle.cohort_map.proofs.map.CohortMap.open_job.Goals as goal
 
+pub open-requires : goal.open-requires
+open-requires c = c.self.invariant.0.rise
+
 pub invariant_of-self : goal.invariant_of-self
 invariant_of-self c =
-    let all = whole c.self.inside.seats.len c.open.new.seats (drop (length c.open.new.seats) c.self.inside.seats.items) (c.open.auto.seats ∙ c.deref_mut.ensures.len) in
-    rw (all, c.open.ensures, c.as_slice.ensures, c.deref_mut.ensures.value) (opened_seated c.self.inside.keys c.self.inside.seats.items c.self.inside.ready.items c.args.job c.args.members.now c.self.invariant.0, c.self.invariant.1)
+    rw (c.open.ensures.seats, c.open.ensures.cohorts, c.as_slice.ensures) (opened_seated c.self.inside.keys c.self.inside.seats.seats c.self.inside.ready.items c.args.job c.args.members.now c.self.invariant.0, c.self.invariant.1)
 
 pub returns-clause-entries : goal.returns-clause-entries
 returns-clause-entries c =
-    let all = whole c.self.inside.seats.len c.open.new.seats (drop (length c.open.new.seats) c.self.inside.seats.items) (c.open.auto.seats ∙ c.deref_mut.ensures.len) in
-    rw (← c.self.view_is, all, c.open.ensures, c.as_slice.ensures, c.deref_mut.ensures.value) (opened_seen c.self.inside.keys c.args.job c.args.members.now c.self.inside.seats.items)
+    rw (← c.self.view_is, c.open.ensures.seats, c.as_slice.ensures) (opened_seen c.self.inside.keys c.args.job c.args.members.now c.self.inside.seats.seats)
