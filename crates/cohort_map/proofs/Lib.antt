@@ -14,3 +14,4 @@ pub mod Entering
 pub mod Steps
 pub mod Living
 pub mod Listing
+pub mod Due

@@ -32,6 +32,10 @@ abbrev pub chosen_cohorts : List CohortKey → ℕ → ℕ → List ℕ → List
 chosen_cohorts keys limit first cohorts [] = cohorts
 chosen_cohorts keys limit first cohorts (s ∷ seats) = chosen_cohorts keys limit first (with_cohort keys limit first cohorts s) seats
 
+abbrev pub cohorts_by : List CohortKey → ℕ → List Seat → Option Seat → List ℕ
+cohorts_by keys limit seats (Some first) = chosen_cohorts keys limit first.cohort [] seats
+cohorts_by keys limit seats None = []
+
 abbrev pub batch_by : List CohortKey → ℕ → List Seat → Option Seat → List Member
 batch_by keys limit seats (Some first) = filter_map (member_seen (chosen_cohorts keys limit first.cohort [] seats)) seats
 batch_by keys limit seats None = []

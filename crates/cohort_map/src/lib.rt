@@ -2,6 +2,7 @@
 #![tactic(auto)]
 
 mod choice;
+mod gathered;
 mod key;
 mod keys;
 mod listed;

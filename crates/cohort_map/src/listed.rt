@@ -23,7 +23,7 @@ pub(crate) fn known(lists: &[PlaceList], cohort: usize) -> Option<&[usize]>
     }
 }
 
-fn complete(list: &PlaceList) -> Option<&[usize]>
+pub(crate) fn complete(list: &PlaceList) -> Option<&[usize]>
     ensures { IfSome result (λ places. IsComplete list.now places.now) }
 {
     if list.is_complete() {

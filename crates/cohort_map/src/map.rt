@@ -240,7 +240,7 @@ impl CohortMap {
         ensures { IfOk result (λ members. members ≡ batch_of limit self.now.entries) }
     {
         self.keys.apart();
-        batch_of(alloc, &self.keys, self.seats.as_slice(), limit)
+        batch_of(alloc, &self.keys, &self.seats, limit)
     }
 
     /// Marks the members of a job with it; they are no longer due. It takes no memory.

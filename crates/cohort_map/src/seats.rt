@@ -1,7 +1,8 @@
-ghost use Rattle.std.specs.Prelude.{◌≡◌, ◌<◌, ◌≤◌, ◌++◌, ◌∷◌, [], None, map, filter, length, IfOk, OnOk, OnErr};
+ghost use Rattle.std.specs.Prelude.{◌≡◌, ◌<◌, ◌≤◌, ◌++◌, ◌∷◌, [], false, None, map, filter, find, length, IfOk, IfSome, IfNone, OnOk, OnErr};
 ghost use Rattle.std.specs.List.{list_any, AllByRecursion};
 ghost use Rattle.cohort_map.specs.Seats.{Rise, IsCut, EndsKept, IsWithin, is_at, at, seat_numbers, seat_ended, seat_opened, seat_closed, seat_moved, seat_ticked, seat_due, is_live_in, is_cohort_busy};
 
+use crate::gathered::{gather, in_order, lowered, next_due};
 use crate::listed::{
     add_place, close_listed, is_any_busy, known, lacks, live_numbers, move_to, open, put_list,
     sweep, take_list,
@@ -27,6 +28,8 @@ pub(crate) struct Seats {
     jobs: BTreeMap<u64, PlaceList>,
     /// Whether a job may have no list, since memory was refused.
     unlisted: bool,
+    /// No due seat is before this place.
+    first: usize,
 }
 
 impl Model for Seats {
@@ -42,6 +45,8 @@ impl Model for Seats {
 }
 
 impl Seats {
+    ghost use Rattle.cohort_map.specs.Listed.{IsFirstDue, HasPlaces};
+
     pub(crate) fn new(alloc: Global) -> Seats
         ensures seats { result.seats ≡ [] }
     {
@@ -52,6 +57,7 @@ impl Seats {
             flags: Vec::new(alloc),
             jobs: BTreeMap::new(alloc),
             unlisted: false,
+            first: 0,
         }
     }
 
@@ -89,6 +95,7 @@ impl Seats {
     pub(crate) fn push(&mut self, seat: Seat) -> Result<(), NoMemory>
         requires within { seat.cohort < self.old.cohorts }
         requires idle { seat.job ≡ None }
+        requires rests { seat.due ≡ false }
         ensures ok { OnOk result (self.new.seats ≡ self.old.seats ++ seat ∷ []) }
         ensures err { OnErr result (self.new.seats ≡ self.old.seats) }
         ensures cohorts { self.new.cohorts ≡ self.old.cohorts }
@@ -131,6 +138,7 @@ impl Seats {
         open(&mut self.seats, &mut list, job, members);
         let put = put_list(&mut self.jobs, job, list);
         self.unlisted = lacks(self.unlisted, put);
+        self.first = next_due(&self.seats, self.first);
     }
 
     /// Takes a job's marks away; its live members become due where `due` is true.
@@ -140,6 +148,7 @@ impl Seats {
     {
         let list = take_list(&mut self.jobs, self.alloc, job, self.unlisted);
         close_listed(&mut self.seats, &list, job, due);
+        self.first = lowered(self.first, &list, due);
     }
 
     /// Moves a number's seat, if it isn't empty, to the cohort of another key.
@@ -162,7 +171,37 @@ impl Seats {
         ensures count { result ≡ length (filter seat_due self.new.seats) }
         ensures cohorts { self.new.cohorts ≡ self.old.cohorts }
     {
-        tick(&mut self.seats, &mut self.flags)
+        let count = tick(&mut self.seats, &mut self.flags);
+        self.first = next_due(&self.seats, 0);
+        count
+    }
+
+    /// The place of the least due number's seat.
+    pub(crate) fn first_due(&self) -> Option<usize>
+        ensures some { IfSome result (IsFirstDue self.now.seats) }
+        ensures none { IfNone result (find seat_due self.now.seats ≡ None) }
+    {
+        let place = next_due(&self.seats, self.first);
+        if place < self.seats.len() {
+            Some(place)
+        } else {
+            None
+        }
+    }
+
+    /// In ascending order all places of these cohorts' seats, and maybe others; `None` where a list isn't complete.
+    pub(crate) fn places_of(
+        &self,
+        alloc: Global,
+        cohorts: &[usize],
+    ) -> Result<Option<Vec<usize>>, NoMemory>
+        ensures { IfOk result (λ found. IfSome found (λ places. HasPlaces self.now.seats cohorts.now places.items)) }
+    {
+        let found = gather(alloc, &self.lists, cohorts)?;
+        match found {
+            Some(places) => Ok(Some(in_order(places))),
+            None => Ok(None),
+        }
     }
 
     /// The live numbers of a cohort.

@@ -1,10 +1,15 @@
-use Rattle.std.proofs.Common.{◌≡◌, Some, length}
-use Rattle.std.specs.List.{find}
-use Rattle.cohort_map.specs.Seats.{IsWithin, seat_due}
-use Rattle.cohort_map.proofs.Choosing.{found_all}
+use Rattle.std.proofs.Common.{◌≡◌, ◌∙◌, ℕ, List, ap, subst, IfOk}
+use Rattle.std.specs.List.{find, filter_map}
+use Rattle.cohort_map.specs.declared.member.Member.{Member}
+use Rattle.cohort_map.specs.Seats.{seat_due, member_seen}
+use Rattle.cohort_map.proofs.Due.{batch_is}
 use Rattle.cohort_map.proofs.choice.batch_of.Goals as goal
 
-pub cohorts_of-requires-clause-first : goal.cohorts_of-requires-clause-first
-cohorts_of-requires-clause-first c =
-    let found : find seat_due c.args.seats.now ≡ Some c.in-Some.first.now = cc in
-    found_all (IsWithin (length c.args.keys.now)) seat_due c.args.seats.now c.in-Some.first.now c.requires.within found
+pub returns-in_ok-cohorts-in-Some : goal.returns-in_ok-cohorts-in-Some
+returns-in_ok-cohorts-in-Some c =
+    let seats = c.args.seats.now.seats in
+    let chosen = rw c.as_slice.ensures at c.in_ok-cohorts-in-Some.ensures.chosen in
+    subst (λ (ms : List Member). IfOk c.members_in.result (λ members. members ≡ ms))
+    (ap (λ (cs : List ℕ). filter_map (member_seen cs) seats) chosen
+    ∙ batch_is c.args.keys.now c.args.limit seats (find seat_due seats) c.in-Some.ensures.some.seat c.in-Some.ensures.some.is)
+    (rw (← c.deref.ensures.value) c.members_in.ensures)

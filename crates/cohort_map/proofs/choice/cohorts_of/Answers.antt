@@ -1,13 +1,20 @@
-use Rattle.std.proofs.Common.{true, false, None, [], length, get_or}
+use Rattle.std.proofs.Common.{◌∙◌, true, false, None, [], length, drop, get_or, arith}
 use Rattle.cohort_map.specs.declared.seat.Seat.{Seat}
 use Rattle.cohort_map.specs.Seats.{IsWithin}
 use Rattle.cohort_map.specs.Choice.{chosen_cohorts}
+use Rattle.cohort_map.proofs.Due.{chosen_full}
 use Rattle.cohort_map.proofs.Choosing.{all_rest, one_more, chosen_more, has_room, taken_by}
 use Rattle.cohort_map.proofs.choice.cohorts_of.Goals as goal
 use Rattle.cohort_map.proofs.choice.cohorts_of.Goals.{then-is_next+in_ok-push, else-is_next}
 
 abbrev none : Seat
 none = record { number = 0; cohort = 0; live = false; due = false; job = None }
+
+pub returns-then-len-limit-clause-chosen : goal.returns-then-len-limit-clause-chosen
+returns-then-len-limit-clause-chosen c =
+    chosen_full c.args.keys.now c.args.limit c.args.first c.loop-seat.cohorts.items (drop c.loop-seat.seat-index c.args.seats.now)
+    (omega (arith, c.if-len-limit.true, c.len.ensures, c.loop-seat.cohorts.ok.0))
+    ∙ c.loop-seat.invariant.chosen
 
 pub loop-seat-preserved : goal.loop-seat-preserved
 loop-seat-preserved c =

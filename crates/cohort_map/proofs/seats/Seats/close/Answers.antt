@@ -1,9 +1,10 @@
-use Rattle.std.proofs.Common.{◌∙◌, ap, sym, subst, map, drop, length, List}
+use Rattle.std.proofs.Common.{◌≡◌, ◌∙◌, ap, sym, subst, map, drop, length, List}
 use Rattle.cohort_map.specs.declared.seat.Seat.{Seat}
-use Rattle.cohort_map.specs.Listed.{AreHeld}
+use Rattle.cohort_map.specs.Listed.{AreHeld, NoneDue}
 use Rattle.cohort_map.proofs.Alls.{whole}
 use Rattle.cohort_map.specs.Seats.{seat_closed}
 use Rattle.cohort_map.proofs.Listing.{held_closed, taken_lists}
+use Rattle.cohort_map.proofs.Due.{closed_first}
 use Rattle.cohort_map.proofs.seats.Seats.close.Goals as goal
 
 pub close_listed-requires : goal.close_listed-requires
@@ -22,4 +23,8 @@ invariant_of-self c =
           (held_closed seats c.args.job c.args.due c.self.inside.lists.items c.self.inside.jobs c.take_list-list.new.jobs c.self.inside.unlisted
           c.take_list-list.ensures.others c.take_list-list.ensures.gone c.self.invariant.held);
       enough = c.self.invariant.enough;
+      least = subst (λ (ss : List Seat). NoneDue c.lowered-self-inside.result ss) (sym is) (closed_first seats c.args.job c.args.due c.self.inside.first c.lowered-self-inside.result c.take_list-list.result c.self.invariant.least
+          (taken_lists seats c.self.inside.jobs c.args.job c.self.inside.unlisted c.take_list-list.result
+          c.self.invariant.held.jobs_listed c.self.invariant.held.known c.take_list-list.ensures.list)
+          c.lowered-self-inside.ensures);
     }

@@ -1,9 +1,10 @@
-use Rattle.std.proofs.Common.{◌∙◌, ap, sym, subst, map, drop, length, List}
+use Rattle.std.proofs.Common.{◌≡◌, ◌∙◌, ap, sym, subst, map, drop, length, List}
 use Rattle.cohort_map.specs.declared.seat.Seat.{Seat}
-use Rattle.cohort_map.specs.Listed.{AreHeld}
+use Rattle.cohort_map.specs.Listed.{AreHeld, NoneDue}
 use Rattle.cohort_map.proofs.Alls.{whole}
 use Rattle.cohort_map.specs.Seats.{at, seat_ended}
 use Rattle.cohort_map.proofs.Listing.{held_over, ended_keeps, ended_jobs}
+use Rattle.cohort_map.proofs.Due.{none_over, ended_due}
 use Rattle.cohort_map.proofs.seats.Seats.end.Goals as goal
 
 pub invariant_of-self : goal.invariant_of-self
@@ -15,6 +16,7 @@ invariant_of-self c =
       held = subst (λ (ss : List Seat). AreHeld ss c.self.inside.lists.items c.self.inside.jobs (c.self.inside.unlisted)) (sym is)
           (held_over (at c.args.number seat_ended) seats c.self.inside.lists.items c.self.inside.jobs c.self.inside.unlisted (ended_keeps c.args.number) (ended_jobs c.args.number) c.self.invariant.held);
       enough = c.self.invariant.enough;
+      least = subst (λ (ss : List Seat). NoneDue c.self.inside.first ss) (sym is) (none_over (at c.args.number seat_ended) c.self.inside.first seats (ended_due c.args.number) c.self.invariant.least);
     }
 
 pub invariant_of-self-in_default : goal.invariant_of-self-in_default
@@ -26,4 +28,5 @@ invariant_of-self-in_default c =
       held = subst (λ (ss : List Seat). AreHeld ss c.self.inside.lists.items c.self.inside.jobs (c.self.inside.unlisted)) (sym is)
           (held_over (at c.args.number seat_ended) seats c.self.inside.lists.items c.self.inside.jobs c.self.inside.unlisted (ended_keeps c.args.number) (ended_jobs c.args.number) c.self.invariant.held);
       enough = c.self.invariant.enough;
+      least = subst (λ (ss : List Seat). NoneDue c.self.inside.first ss) (sym is) (none_over (at c.args.number seat_ended) c.self.inside.first seats (ended_due c.args.number) c.self.invariant.least);
     }

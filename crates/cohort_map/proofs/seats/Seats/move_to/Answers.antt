@@ -2,9 +2,10 @@ use Rattle.std.proofs.Common.{◌≡◌, ◌∙◌, ◌++◌, ℕ, ◌≤◌, ap
 use Rattle.cohort_map.specs.declared.seat.Seat.{Seat}
 use Rattle.place_list.specs.Places.{Places}
 use Rattle.cohort_map.specs.Seats.{at, seat_moved}
-use Rattle.cohort_map.specs.Listed.{AreListed, AreHeld}
+use Rattle.cohort_map.specs.Listed.{AreListed, AreHeld, NoneDue}
 use Rattle.cohort_map.proofs.Alls.{whole}
 use Rattle.cohort_map.proofs.Listing.{held_moved}
+use Rattle.cohort_map.proofs.Due.{none_over, moved_due}
 use Rattle.cohort_map.proofs.seats.Seats.move_to.Goals as goal
 
 pub invariant_of-self : goal.invariant_of-self
@@ -26,6 +27,8 @@ invariant_of-self c =
       held = subst (λ (ss : List Seat). AreHeld ss (take c.self.inside.lists.len (c.move_to-before.new.lists ++ drop (length c.move_to-before.new.lists) lists)) c.self.inside.jobs c.self.inside.unlisted) (sym (all ∙ moved))
           (subst (λ (ls : List Places). AreHeld (map (at c.args.number (seat_moved c.args.cohort)) seats) ls c.self.inside.jobs c.self.inside.unlisted) (sym whole_lists) after);
       enough = subst (λ (n : ℕ). n ≤ length c.self.inside.flags.items) (sym (ap length whole_lists ∙ long)) c.self.invariant.enough;
+      least = subst (λ (ss : List Seat). NoneDue c.self.inside.first ss) (sym (all ∙ moved))
+          (none_over (at c.args.number (seat_moved c.args.cohort)) c.self.inside.first seats (moved_due c.args.number c.args.cohort) c.self.invariant.least);
     }
 
 pub invariant_of-self-in_default : goal.invariant_of-self-in_default
@@ -47,4 +50,6 @@ invariant_of-self-in_default c =
       held = subst (λ (ss : List Seat). AreHeld ss (take c.self.inside.lists.len (c.move_to-before.new.lists ++ drop (length c.move_to-before.new.lists) lists)) c.self.inside.jobs c.self.inside.unlisted) (sym (all ∙ moved))
           (subst (λ (ls : List Places). AreHeld (map (at c.args.number (seat_moved c.args.cohort)) seats) ls c.self.inside.jobs c.self.inside.unlisted) (sym whole_lists) after);
       enough = subst (λ (n : ℕ). n ≤ length c.self.inside.flags.items) (sym (ap length whole_lists ∙ long)) c.self.invariant.enough;
+      least = subst (λ (ss : List Seat). NoneDue c.self.inside.first ss) (sym (all ∙ moved))
+          (none_over (at c.args.number (seat_moved c.args.cohort)) c.self.inside.first seats (moved_due c.args.number c.args.cohort) c.self.invariant.least);
     }

@@ -17,4 +17,5 @@ invariant_of-self c =
           (held_swept seats c.args.cohort lists c.sweep.new.lists c.self.inside.jobs c.self.inside.unlisted changed c.self.invariant.held);
       enough = subst (λ (ls : List Places). length ls ≤ length c.self.inside.flags.items) (sym all)
           (let long = changed.long in let few = c.self.invariant.enough in omega arith);
+      least = c.self.invariant.least;
     }

@@ -1,9 +1,10 @@
 use Rattle.std.proofs.Common.{◌≡◌, ◌∙◌, ap, sym, subst, drop, length, map, List, Bool}
 use Rattle.cohort_map.specs.declared.seat.Seat.{Seat}
 use Rattle.cohort_map.specs.Seats.{seat_opened}
-use Rattle.cohort_map.specs.Listed.{is_of_job, Lists, AreHeld}
+use Rattle.cohort_map.specs.Listed.{is_of_job, Lists, AreHeld, NoneDue}
 use Rattle.cohort_map.proofs.Alls.{whole}
 use Rattle.cohort_map.proofs.Listing.{held_opened, taken_lists, IsPut}
+use Rattle.cohort_map.proofs.Due.{none_over, opened_due}
 use Rattle.cohort_map.proofs.seats.Seats.open.Goals as goal
 
 pub open-requires-clause-listed : goal.open-requires-clause-listed
@@ -33,4 +34,7 @@ invariant_of-self c =
           (subst (λ (u : Bool). AreHeld (map (seat_opened c.args.job c.args.members.now) before) c.self.inside.lists.items c.put_list-put.new.jobs u)
           (sym c.lacks-self-inside.ensures) opened);
       enough = c.self.invariant.enough;
+      least = subst (λ (ss : List Seat). NoneDue c.next_due-self-inside.result ss) c.deref.ensures.value
+          (c.next_due-self-inside.ensures.none (subst (λ (ss : List Seat). NoneDue c.self.inside.first ss) (sym (c.deref.ensures.value ∙ all ∙ seats))
+          (none_over (seat_opened c.args.job c.args.members.now) c.self.inside.first before (opened_due c.args.job c.args.members.now) c.self.invariant.least)));
     }
