@@ -15,3 +15,4 @@ pub mod Steps
 pub mod Living
 pub mod Listing
 pub mod Due
+pub mod Copying

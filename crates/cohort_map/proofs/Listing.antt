@@ -600,13 +600,13 @@ held_over g seats lists jobs u keeps same held = record {
   known = λ none. known_over g seats jobs same (held.known none);
 }
 
-pub held_push : (seats : List Seat) (s : Seat) (place : ℕ) (lists more : List Places) (jobs : BTreeMap ℕ Places) (u : Bool)
-    → place ≡ length seats → s.job ≡ None → IsChanged (IsAdded place) s.cohort lists more → AreHeld seats lists jobs u
-    → AreHeld (seats ++ s ∷ []) more jobs u
-held_push seats s place lists more jobs u end idle changed held = record {
+pub held_added : (seats : List Seat) (s : Seat) (place : ℕ) (lists more : List Places) (jobs after : BTreeMap ℕ Places) (u v : Bool)
+    → place ≡ length seats → IsChanged (IsAdded place) s.cohort lists more → JobsAreListed (seats ++ s ∷ []) after
+    → (v ≡ false → JobsAreKnown (seats ++ s ∷ []) after) → AreHeld seats lists jobs u → AreHeld (seats ++ s ∷ []) more after v
+held_added seats s place lists more jobs after u v end changed listed known held = record {
   cohorts = placed_listed seats (seats ++ s ∷ []) lists more place s.cohort (pushed_differs seats s place end) held.cohorts changed;
-  jobs_listed = push_jobs seats s jobs idle held.jobs_listed;
-  known = λ none. push_known seats s jobs idle (held.known none);
+  jobs_listed = listed;
+  known = known;
 }
 
 pub held_opened : (seats : List Seat) (members : List Member) (job : ℕ) (put : Bool) (list : Places) (lists : List Places)

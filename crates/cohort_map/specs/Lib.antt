@@ -6,3 +6,4 @@ pub mod Indexed
 pub mod Seats
 pub mod Choice
 pub mod Listed
+pub mod Copies

@@ -1,4 +1,4 @@
-ghost use Rattle.std.specs.Prelude.{◌≡◌, ◌<◌, ℕ, true, ◌++◌, Contains, length, slice_index_or, IfOk, IfSome, OnOk};
+ghost use Rattle.std.specs.Prelude.{◌≡◌, ◌<◌, ℕ, true, false, ◌++◌, Contains, length, slice_index_or, IfOk, IfSome, OnOk};
 ghost use Rattle.place_list.specs.Places.{Ascends};
 ghost use Rattle.cohort_map.specs.Listed.{NoneDue, no_seat, IsLowered, Gathers};
 
@@ -37,6 +37,14 @@ pub(crate) fn lowered(first: usize, list: &PlaceList, due: bool) -> usize
         },
         None => 0,
     }
+}
+
+/// The least place that may be due where a seat was added at the end.
+pub(crate) fn start_of(first: usize, due: bool) -> usize
+    ensures due { due ≡ true → result ≡ 0 }
+    ensures rests { due ≡ false → result ≡ first }
+{
+    if due { 0 } else { first }
 }
 
 fn append(all: &mut Vec<usize>, places: &[usize]) -> Result<(), NoMemory>

@@ -2,6 +2,7 @@
 #![tactic(auto)]
 
 mod choice;
+mod compact;
 mod gathered;
 mod key;
 mod keys;

@@ -1,10 +1,11 @@
-ghost use Rattle.std.specs.Prelude.{◌≡◌, ◌<◌, ℕ, true, false, Some, None, List, ◌∷◌, ◌||◌, not, map, filter_map, length, IfOk, IfSome};
+ghost use Rattle.std.specs.Prelude.{◌≡◌, ◌<◌, ℕ, true, false, Some, None, List, [], ◌∷◌, ◌++◌, ◌||◌, not, map, filter_map, length, IfOk, IfSome};
 ghost use Rattle.std.specs.BTreeMap.{get};
 ghost use Rattle.std.specs.Ordering.{nat_cmp};
 ghost use Rattle.std.specs.List.{list_any};
 ghost use Rattle.place_list.specs.Places.{Covers};
 ghost use Rattle.cohort_map.specs.Seats.{Rise, at, seat_marked, seat_opened, seat_closed, seat_moved};
-ghost use Rattle.cohort_map.specs.Listed.{belongs_at, is_of_job, live_at, busy_at, Lists, AreListed, IsComplete, IsKnown, IsChanged, IsAdded, IsSettled, IsTaken};
+ghost use Rattle.cohort_map.specs.declared.seat.Seat.{Seat};
+ghost use Rattle.cohort_map.specs.Listed.{belongs_at, is_of_job, live_at, busy_at, Lists, AreListed, JobsAreListed, JobsAreKnown, IsComplete, IsKnown, IsChanged, IsAdded, IsSettled, IsTaken};
 
 use crate::member::{Member, SubList};
 use crate::seat::{Seat, close, closed, find_seat, is_kept};
@@ -256,4 +257,29 @@ pub(crate) fn lacks(unlisted: bool, put: bool) -> bool
     ensures { result ≡ (unlisted || not put) }
 {
     unlisted || !put
+}
+
+/// Lists the place behind all seats for the job of a new seat there, if it is a member of one. It says whether jobs may
+/// lack a list.
+pub(crate) fn list_member(
+    jobs: &mut BTreeMap<u64, PlaceList>,
+    alloc: Global,
+    job: Option<u64>,
+    place: usize,
+    unlisted: bool,
+) -> bool
+    ensures listed { (seats : List Seat) (s : Seat) → s.job ≡ job → place ≡ length seats → JobsAreListed seats jobs.old
+        → (unlisted ≡ false → JobsAreKnown seats jobs.old) → JobsAreListed (seats ++ s ∷ []) jobs.new }
+    ensures known { (seats : List Seat) (s : Seat) → s.job ≡ job → place ≡ length seats
+        → (unlisted ≡ false → JobsAreKnown seats jobs.old) → result ≡ false → JobsAreKnown (seats ++ s ∷ []) jobs.new }
+{
+    match job {
+        Some(job) => {
+            let mut list = take_list(jobs, alloc, job, unlisted);
+            list.add(place);
+            let put = put_list(jobs, job, list);
+            lacks(unlisted, put)
+        }
+        None => unlisted,
+    }
 }

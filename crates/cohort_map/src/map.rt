@@ -7,6 +7,7 @@ ghost use Rattle.cohort_map.specs.Keys.{with_cursor};
 ghost use Rattle.cohort_map.specs.Seats.{IsReadyWithin, IsReadyTo, TellsReady, ready_of};
 
 use crate::choice::batch_of;
+use crate::compact::{copy_all, count_kept};
 use crate::key::{CohortKey, PollerKey};
 use crate::keys::Keys;
 use crate::member::{MemberList, SubList};
@@ -17,6 +18,9 @@ use plan_core::Binding;
 use scalar_val::{NoMemory, Val, cmp, copy_val};
 use std::alloc::Global;
 use std::marker::Model;
+
+/// A map of fewer seats and keys isn't compacted.
+const LEAST_LIMIT: usize = 64;
 
 /// A cohort's key with another cursor.
 fn key_with(alloc: Global, key: &CohortKey, cursor: &Val) -> Result<CohortKey, NoMemory>
@@ -82,6 +86,8 @@ pub struct CohortMap {
     /// How many moves were made since the list of ready ones was empty: the place of the next one, where they are made in
     /// the order in which they were made ready.
     moved: usize,
+    /// The size at which the map is compacted next, if that is worth its time.
+    limit: usize,
 }
 
 impl Model for CohortMap {
@@ -111,12 +117,31 @@ impl CohortMap {
             seats: Seats::new(alloc),
             ready: Vec::new(alloc),
             moved: 0,
+            limit: LEAST_LIMIT,
         }
     }
 
     /// Adds a subscription, which is live and not due. It needs a number above all earlier ones. For want of memory nothing
     /// is added.
     pub fn join(
+        &mut self,
+        alloc: Global,
+        sub: u64,
+        poller: PollerKey,
+        binding: Binding,
+    ) -> Result<(), NoMemory>
+        requires above { All (λ e. e.number < sub) self.old.entries }
+        requires apart { All (λ r. r.number < sub) self.old.ready }
+        ensures ok { OnOk result (self.new.entries ≡ self.old.entries ++ entered sub poller binding ∷ []) }
+        ensures err { OnErr result (self.new.entries ≡ self.old.entries) }
+        ensures ready { self.new.ready ≡ self.old.ready }
+    {
+        self.shrink(alloc);
+        self.enter(alloc, sub, poller, binding)
+    }
+
+    /// What `join` does, once empty seats and keys without seats are given back.
+    fn enter(
         &mut self,
         alloc: Global,
         sub: u64,
@@ -140,6 +165,50 @@ impl CohortMap {
             job: None,
         })?;
         Ok(())
+    }
+
+    /// How many places there are for seats or keys.
+    fn size(&self) -> usize {
+        self.seats.as_slice().len().max(self.keys.len())
+    }
+
+    /// Gives empty seats and keys without seats back, if they are more than half, no move is ready, and there is memory for
+    /// a copy of the others.
+    fn compact(&mut self, alloc: Global)
+        ensures { self.new ≡ self.old }
+    {
+        if self.ready.len() > 0 {
+            return;
+        }
+        if count_kept(self.seats.as_slice()) > self.size() / 2 {
+            return;
+        }
+        let mut keys = Keys::new(alloc);
+        let mut seats = Seats::new(alloc);
+        match copy_all(
+            alloc,
+            &self.keys,
+            self.seats.as_slice(),
+            &mut keys,
+            &mut seats,
+        ) {
+            Ok(()) => {
+                self.keys = keys;
+                self.seats = seats;
+            }
+            Err(_refused) => {}
+        }
+    }
+
+    /// Compacts the map where its size has doubled since the last time, so that the work is a constant for each call.
+    fn shrink(&mut self, alloc: Global)
+        ensures { self.new ≡ self.old }
+    {
+        if self.size() < self.limit {
+            return;
+        }
+        self.compact(alloc);
+        self.limit = self.size().saturating_mul(2).max(LEAST_LIMIT);
     }
 
     /// Ends a subscription, which takes it out of the due ones. Its entry stays while it is a member of an open job, and ending
@@ -263,6 +332,17 @@ impl CohortMap {
     /// Makes it ready that a stream is moved to a cursor, which changes no entry. It needs the number of a stream of the map:
     /// of an entry whose cursor isn't null. For want of memory nothing is added.
     pub fn ready(&mut self, alloc: Global, sub: u64, cursor: &Val) -> Result<(), NoMemory>
+        requires { IsTrue (has_stream sub self.old.entries) }
+        ensures entries { self.new.entries ≡ self.old.entries }
+        ensures ok { OnOk result (self.new.ready ≡ self.old.ready ++ record { number = sub; cursor = cursor.now } ∷ []) }
+        ensures err { OnErr result (self.new.ready ≡ self.old.ready) }
+    {
+        self.shrink(alloc);
+        self.prepare(alloc, sub, cursor)
+    }
+
+    /// What `ready` does, once empty seats and keys without seats are given back.
+    fn prepare(&mut self, alloc: Global, sub: u64, cursor: &Val) -> Result<(), NoMemory>
         requires { IsTrue (has_stream sub self.old.entries) }
         ensures entries { self.new.entries ≡ self.old.entries }
         ensures ok { OnOk result (self.new.ready ≡ self.old.ready ++ record { number = sub; cursor = cursor.now } ∷ []) }

@@ -1,11 +1,11 @@
-ghost use Rattle.std.specs.Prelude.{◌≡◌, ◌<◌, ◌≤◌, ◌++◌, ◌∷◌, [], false, None, map, filter, find, length, IfOk, IfSome, IfNone, OnOk, OnErr};
+ghost use Rattle.std.specs.Prelude.{◌≡◌, ◌<◌, ◌≤◌, ◌++◌, ◌∷◌, [], None, map, filter, find, length, IfOk, IfSome, IfNone, OnOk, OnErr};
 ghost use Rattle.std.specs.List.{list_any, AllByRecursion};
 ghost use Rattle.cohort_map.specs.Seats.{Rise, IsCut, EndsKept, IsWithin, is_at, at, seat_numbers, seat_ended, seat_opened, seat_closed, seat_moved, seat_ticked, seat_due, is_live_in, is_cohort_busy};
 
-use crate::gathered::{gather, in_order, lowered, next_due};
+use crate::gathered::{gather, in_order, lowered, next_due, start_of};
 use crate::listed::{
-    add_place, close_listed, is_any_busy, known, lacks, live_numbers, move_to, open, put_list,
-    sweep, take_list,
+    add_place, close_listed, is_any_busy, known, lacks, list_member, live_numbers, move_to, open,
+    put_list, sweep, take_list,
 };
 use crate::member::{Member, SubList};
 use crate::seat::{Seat, cohort_of, drop_empty_end, end, is_busy, live_in, make_flag, tick};
@@ -93,9 +93,7 @@ impl Seats {
     }
 
     pub(crate) fn push(&mut self, seat: Seat) -> Result<(), NoMemory>
-        requires within { seat.cohort < self.old.cohorts }
-        requires idle { seat.job ≡ None }
-        requires rests { seat.due ≡ false }
+        requires { seat.cohort < self.old.cohorts }
         ensures ok { OnOk result (self.new.seats ≡ self.old.seats ++ seat ∷ []) }
         ensures err { OnErr result (self.new.seats ≡ self.old.seats) }
         ensures cohorts { self.new.cohorts ≡ self.old.cohorts }
@@ -103,6 +101,8 @@ impl Seats {
         let place = self.seats.len();
         self.seats.push(seat)?;
         add_place(&mut self.lists, seat.cohort, place);
+        self.unlisted = list_member(&mut self.jobs, self.alloc, seat.job, place, self.unlisted);
+        self.first = start_of(self.first, seat.due);
         Ok(())
     }
 

@@ -6,7 +6,7 @@ use Rattle.cohort_map.specs.Seats.{IsSeated, IsCut, IsWithin, IsSound, entries_o
 use Rattle.cohort_map.proofs.Alls.{all_weaker}
 use Rattle.cohort_map.proofs.Entering.{on_err, kept_seated, kept_seen, kept_ready, new_seated, new_seen}
 use Rattle.cohort_map.proofs.Rehoming.{got_within}
-use Rattle.cohort_map.proofs.map.CohortMap.join.Goals as goal
+use Rattle.cohort_map.proofs.map.CohortMap.enter.Goals as goal
 
 pub make_cohort-requires-clause-count : goal.make_cohort-requires-clause-count
 make_cohort-requires-clause-count c = let few = c.self.invariant.1 in omega (arith, c.len.ensures)
@@ -16,8 +16,8 @@ make_cohort-requires-clause-within c =
     all_weaker (IsSound (length c.self.inside.keys)) (IsWithin c.len.result)
     (λ s sound. let within = sound.within in omega (arith, c.len.ensures)) c.self.inside.seats.seats c.self.invariant.0.sound
 
-pub push-requires-clause-within : goal.push-requires-clause-within
-push-requires-clause-within c =
+pub push-requires : goal.push-requires
+push-requires c =
     let within = got_within c.place_of.new.self c.in_ok-cohort.cohort _ c.in_ok-cohort.ensures.place in
     omega (arith, c.len.ensures, c.in_ok-make_cohort.ensures.ok, c.in_ok-cohort.ensures.most, c.drop_empty_end.ensures.cohorts)
 

@@ -1,14 +1,14 @@
-use Rattle.std.proofs.Common.{◌≡◌, ◌∙◌, ap, sym, subst, true, length, arith, Some}
+use Rattle.std.proofs.Common.{◌≡◌, ◌<◌, ◌∙◌, ap, sym, subst, true, length, arith, List, Some}
 use Rattle.std.proofs.lemmas.Bool.{false≢true}
 use Rattle.cohort_map.specs.declared.key.CohortKey.{CohortKey}
 use Rattle.cohort_map.specs.Entries.{Held, has_stream, is_entry, is_stream}
-use Rattle.cohort_map.specs.Seats.{IsCohortOf, IsSound, IsWithin, entries_of, ready_of}
+use Rattle.cohort_map.specs.Seats.{IsCohortOf, IsSeated, IsSound, IsWithin, entries_of, ready_of}
 use Rattle.cohort_map.proofs.Alls.{all_weaker}
 use Rattle.cohort_map.proofs.Views.{within_of}
 use Rattle.cohort_map.proofs.Finding.{cohort_within, entry_none}
 use Rattle.cohort_map.proofs.Seated.{more_seen, more_seated}
 use Rattle.cohort_map.proofs.Entering.{on_err, kept_ready, none_any, paired_seated, paired_seen}
-use Rattle.cohort_map.proofs.map.CohortMap.ready.Goals as goal
+use Rattle.cohort_map.proofs.map.CohortMap.prepare.Goals as goal
 
 pub make_cohort-requires-clause-count : goal.make_cohort-requires-clause-count
 make_cohort-requires-clause-count c = let few = c.self.invariant.1 in omega (arith, c.len.ensures)

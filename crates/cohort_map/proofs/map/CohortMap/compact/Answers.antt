@@ -1,0 +1,26 @@
+use Rattle.std.proofs.Common.{◌≡◌, ◌∙◌, [], length, arith}
+use Rattle.cohort_map.specs.Copies.{Copies}
+use Rattle.cohort_map.proofs.Copying.{compacted, same_held, no_items}
+use Rattle.cohort_map.proofs.map.CohortMap.compact.Goals as goal
+
+pub copy_all-requires-clause-rise : goal.copy_all-requires-clause-rise
+copy_all-requires-clause-rise c = rw c.as_slice-2.ensures c.self.invariant.0.rise
+
+pub copy_all-requires-clause-sound : goal.copy_all-requires-clause-sound
+copy_all-requires-clause-sound c = rw c.as_slice-2.ensures c.self.invariant.0.sound
+
+pub invariant_of-self : goal.invariant_of-self
+invariant_of-self c =
+    let from = c.self.inside.keys in
+    let seats = c.self.inside.seats.seats in
+    let none = no_items c.self.inside.ready.items (omega (arith, c.self.inside.ready.ok.0)) in
+    let copies : Copies from seats c.copy_all.new.keys c.copy_all.new.seats = rw (← c.as_slice-2.ensures) c.in-Ok.ensures in
+    (compacted from c.copy_all.new.keys seats c.copy_all.new.seats c.self.inside.ready.items none copies, copies.few)
+
+pub returns-in-Ok : goal.returns-in-Ok
+returns-in-Ok c =
+    let from = c.self.inside.keys in
+    let seats = c.self.inside.seats.seats in
+    let none = no_items c.self.inside.ready.items (omega (arith, c.self.inside.ready.ok.0)) in
+    let copies : Copies from seats c.copy_all.new.keys c.copy_all.new.seats = rw (← c.as_slice-2.ensures) c.in-Ok.ensures in
+    same_held from c.copy_all.new.keys seats c.copy_all.new.seats c.self.inside.ready.items none copies ∙ c.self.view_is
