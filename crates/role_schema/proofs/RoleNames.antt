@@ -23,11 +23,9 @@ mapped_at : (roles : List RoleDef) (o : Option ℕ) →
 mapped_at roles (Some at) = slice_get-map index_of roles at
 mapped_at roles None = refl
 
--- and so does the index of its permissions
-pub index_in : (name : Text) (roles : List RoleDef) (names : List Text) (indexes : List GrantIndex) (at : Option ℕ)
-    (i : Option GrantIndex) → names ≡ map (λ (r : RoleDef). r.name) roles → indexes ≡ map index_of roles →
-    at ≡ first_at names name → i ≡ option_and_then (slice_get indexes) at →
-    i ≡ option_map index_of (find (λ (r : RoleDef). bytes_eq name r.name) roles)
-index_in name roles names indexes at i told indexed place got =
+-- the index of its permissions stands at the same place
+pub index_in : (roles : List RoleDef) (indexes : List GrantIndex) (at : Option ℕ) (i : Option GrantIndex) →
+    indexes ≡ map index_of roles → i ≡ option_and_then (slice_get indexes) at →
+    i ≡ option_map index_of (option_and_then (slice_get roles) at)
+index_in roles indexes at i indexed got =
     got ∙ ap (λ is. option_and_then (slice_get is) at) indexed ∙ mapped_at roles at
-    ∙ ap (option_map index_of) (found_in name roles names at (option_and_then (slice_get roles) at) told place refl)

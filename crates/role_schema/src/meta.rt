@@ -236,18 +236,25 @@ impl Meta {
         }
     }
 
-    /// What the metadata says of a role; `None` where no permission names it.
-    pub(crate) fn role_named(&self, name: &str) -> Option<&RoleDef>
-        ensures { option_copied result ≡ find (λ r. bytes_eq name.now r.name) self.now.roles }
+    /// The place of a role among the roles; `None` where no permission names it.
+    pub(crate) fn role_place(&self, name: &str) -> Option<usize>
+        ensures { option_and_then (slice_get self.now.roles) result ≡ find (λ r. bytes_eq name.now r.name) self.now.roles }
     {
-        role_at(self.said.roles.as_slice(), self.role_names.place(name))
+        self.role_names.place(name)
     }
 
-    /// The index of a role's permissions.
-    pub(crate) fn grants_named(&self, name: &str) -> Option<&GrantIndex>
-        ensures { option_copied result ≡ option_map index_of (find (λ r. bytes_eq name.now r.name) self.now.roles) }
+    /// What the metadata says of the role at a place.
+    pub(crate) fn role_in(&self, place: Option<usize>) -> Option<&RoleDef>
+        ensures { option_copied result ≡ option_and_then (slice_get self.now.roles) place }
     {
-        index_at(self.grants.as_slice(), self.role_names.place(name))
+        role_at(self.said.roles.as_slice(), place)
+    }
+
+    /// The index of the permissions of the role at a place.
+    pub(crate) fn grants_in(&self, place: Option<usize>) -> Option<&GrantIndex>
+        ensures { option_copied result ≡ option_map index_of (option_and_then (slice_get self.now.roles) place) }
+    {
+        index_at(self.grants.as_slice(), place)
     }
 
     /// The number of the table of a name.

@@ -26,8 +26,7 @@ use std::marker::Model;
 pub struct RoleView<'a> {
     meta: &'a Meta,
     role: &'a str,
-    def: Option<&'a RoleDef>,
-    grants: Option<&'a GrantIndex>,
+    place: Option<usize>,
 }
 
 impl<'a> Model for RoleView<'a> {
@@ -42,14 +41,11 @@ impl<'a> Model for RoleView<'a> {
 
     ghost view = { λ v. record { metadata = v.meta.now; role = v.role.now } };
 
-    ghost use Rattle.std.specs.Prelude.{◌≡◌, option_map};
-    ghost use Rattle.std.specs.Option.{option_copied};
+    ghost use Rattle.std.specs.Prelude.{◌≡◌, option_and_then, slice_get};
     ghost use Rattle.role_model.specs.Roles.{role_of};
-    ghost use Rattle.role_schema.specs.GrantNumbers.{index_of};
 
-    ghost invariant = { λ v. (option_copied v.def ≡ role_of (record { metadata = v.meta.now; role = v.role.now }))
-        × (option_copied v.grants
-        ≡ option_map index_of (role_of (record { metadata = v.meta.now; role = v.role.now }))) };
+    ghost invariant = { λ v. option_and_then (slice_get v.meta.now.roles) v.place
+        ≡ role_of (record { metadata = v.meta.now; role = v.role.now }) };
 }
 
 impl Meta {
@@ -57,13 +53,11 @@ impl Meta {
     pub fn view<'a>(&'a self, role: &'a str) -> RoleView<'a>
         ensures { result ≡ record { metadata = self.now; role = role.now } }
     {
-        let def = self.role_named(role);
-        let grants = self.grants_named(role);
+        let place = self.role_place(role);
         RoleView {
             meta: self,
             role,
-            def,
-            grants,
+            place,
         }
     }
 }
@@ -101,13 +95,13 @@ impl<'a> RoleView<'a> {
     fn role(&self) -> Option<&'a RoleDef>
         ensures { option_copied result ≡ role_of self.now }
     {
-        self.def
+        self.meta.role_in(self.place)
     }
 
     fn grants(&self) -> Option<&'a GrantIndex>
         ensures { option_copied result ≡ option_map index_of (role_of self.now) }
     {
-        self.grants
+        self.meta.grants_in(self.place)
     }
 
     fn grant_place(&self, table: u32) -> Option<usize>
