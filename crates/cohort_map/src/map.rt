@@ -19,8 +19,8 @@ use scalar_val::{NoMemory, Val, cmp, copy_val};
 use std::alloc::Global;
 use std::marker::Model;
 
-/// A map of fewer seats and keys isn't compacted.
-const LEAST_LIMIT: usize = 64;
+/// The least number of calls from one compaction to the next.
+const LEAST_CALLS: usize = 64;
 
 /// A cohort's key with another cursor.
 fn key_with(alloc: Global, key: &CohortKey, cursor: &Val) -> Result<CohortKey, NoMemory>
@@ -86,8 +86,8 @@ pub struct CohortMap {
     /// How many moves were made since the list of ready ones was empty: the place of the next one, where they are made in
     /// the order in which they were made ready.
     moved: usize,
-    /// The size at which the map is compacted next, if that is worth its time.
-    limit: usize,
+    /// After how many more joins, ends and ready moves the map is compacted, if that is worth its time.
+    until: usize,
 }
 
 impl Model for CohortMap {
@@ -117,7 +117,7 @@ impl CohortMap {
             seats: Seats::new(alloc),
             ready: Vec::new(alloc),
             moved: 0,
-            limit: LEAST_LIMIT,
+            until: LEAST_CALLS,
         }
     }
 
@@ -200,15 +200,16 @@ impl CohortMap {
         }
     }
 
-    /// Compacts the map where its size has doubled since the last time, so that the work is a constant for each call.
+    /// Compacts the map after as many calls as it had seats or keys the last time, so that the work is a constant for each.
     fn shrink(&mut self, alloc: Global)
         ensures { self.new ≡ self.old }
     {
-        if self.size() < self.limit {
+        if self.until > 0 {
+            self.until -= 1;
             return;
         }
         self.compact(alloc);
-        self.limit = self.size().saturating_mul(2).max(LEAST_LIMIT);
+        self.until = self.size().max(LEAST_CALLS);
     }
 
     /// Ends a subscription, which takes it out of the due ones. Its entry stays while it is a member of an open job, and ending
@@ -218,6 +219,7 @@ impl CohortMap {
         ensures ready { self.new.ready ≡ self.old.ready }
         ensures answer { result ≡ has sub self.old.entries }
     {
+        self.until = self.until.saturating_sub(1);
         self.seats.end(sub)
     }
 
