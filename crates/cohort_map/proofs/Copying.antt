@@ -1,16 +1,16 @@
 -- A copy of seats, a seat at a time; and what a seat at the end does to the lists of jobs.
-use Rattle.std.proofs.Common.{if◌then◌else◌, ◌≡◌, ◌∙◌, ℕ, ◌<◌, ◌≤◌, ◌+◌, zero, suc, Bool, true, false, ◌||◌, not, Option, Some, None, is_some, List, [], ◌∷◌, ◌++◌, length, take, get_or, refl, sym, ap, subst, arith, ◌⊎◌, inl, inr, Result, Ok, Err, OnOk}
+use Rattle.std.proofs.Common.{◌≡◌, ◌∙◌, ℕ, ◌<◌, ◌≤◌, ◌+◌, zero, suc, Bool, true, false, Option, Some, None, is_some, List, [], ◌∷◌, ◌++◌, length, take, get_or, refl, sym, ap, subst, arith, inl, inr, Result, Ok, Err, OnOk}
 use Rattle.std.proofs.lemmas.Bool.{cases_eq, eqb-true}
 use Rattle.std.proofs.lemmas.List.{take_more, append-nil}
 use Rattle.std.proofs.lemmas.List.Elements.{filter_map-append}
 use Rattle.std.specs.BTreeMap.{BTreeMap, get}
 use Rattle.std.specs.Ordering.{nat_cmp}
-use Rattle.std.specs.List.{AllByRecursion, Contains, slice_get}
+use Rattle.std.specs.List.{AllByRecursion, Contains}
 use Rattle.place_list.specs.Places.{Places}
 use Rattle.cohort_map.specs.declared.key.CohortKey.{CohortKey}
 use Rattle.cohort_map.specs.declared.seat.Seat.{Seat}
 use Rattle.cohort_map.specs.declared.seat.ReadySeat.{ReadySeat}
-use Rattle.cohort_map.specs.Entries.{Entry, Held}
+use Rattle.cohort_map.specs.Entries.{Entry}
 use Rattle.cohort_map.specs.Batches.{is_job}
 use Rattle.cohort_map.specs.Seats.{Rise, IsSound, IsReady, IsSeated, is_kept, seen, entry_with, entries_of, ready_of, held}
 use Rattle.cohort_map.specs.Listed.{Seating, is_of_job, Lists, JobsAreListed, JobsAreKnown, NoneDue}
@@ -19,7 +19,7 @@ use Rattle.cohort_map.proofs.Alls.{all_more, all_weaker}
 use Rattle.cohort_map.proofs.Rising.{rise_more}
 use Rattle.cohort_map.proofs.Rehoming.{got_within}
 use Rattle.cohort_map.proofs.Seated.{more_seen, joined_seen}
-use Rattle.cohort_map.proofs.Listing.{from_push, push_jobs, push_known, IsPut, both_false}
+use Rattle.cohort_map.proofs.Listing.{from_push, IsPut}
 use Rattle.cohort_map.proofs.Due.{push_first, none_before_start}
 
 -- ---- all but the last, and the last

@@ -1,13 +1,13 @@
 -- The first due seat, and the choice of a batch from it on and by lists of places.
 use Rattle.std.specs.Prelude.{nat_lt}
-use Rattle.std.proofs.Common.{if◌then◌else◌, ◌≡◌, ◌∙◌, ℕ, ◌<◌, ◌≤◌, ◌+◌, ◌-◌, zero, suc, Bool, true, false, ◌&&◌, ◌||◌, not, ◌==◌, Option, Some, None, is_some, List, [], ◌∷◌, ◌++◌, length, map, drop, take, get_or, eq-eqb, refl, sym, ap, subst, arith, ◌⊎◌, inl, inr}
+use Rattle.std.proofs.Common.{if◌then◌else◌, ◌≡◌, ◌∙◌, ℕ, ◌<◌, ◌≤◌, ◌+◌, ◌-◌, zero, suc, Bool, true, false, ◌&&◌, ◌||◌, ◌==◌, Option, Some, None, is_some, List, [], ◌∷◌, ◌++◌, length, map, drop, take, get_or, eq-eqb, refl, sym, ap, subst, arith, ◌⊎◌, inl, inr}
 use Rattle.std.specs.Option.{option_map, option_to_list}
 use Rattle.std.proofs.lemmas.Bool.{cases_eq, eqb-true, le-ltb}
 use Rattle.std.specs.List.Sorted.{IsStrictlyIncreasing}
 use Rattle.std.proofs.lemmas.List.{take_more, take_rest, drop_more}
 use Rattle.std.proofs.lemmas.List.Elements.{recursion_from_All, Contains-append_left, Contains-append_right}
 use Rattle.std.proofs.lemmas.List.Kept.{AllPairs-from_increasing}
-use Rattle.std.specs.List.{AllByRecursion, AllPairs, Contains, list_any, find, filter_map, cons_option, position_from, slice_get}
+use Rattle.std.specs.List.{AllByRecursion, AllPairs, Contains, find, filter_map, cons_option, position_from, slice_get}
 use Rattle.place_list.specs.Places.{Places, Ascends, Covers, read_at}
 use Rattle.place_list.proofs.Reading.{read_map}
 use Rattle.cohort_map.specs.declared.key.CohortKey.{CohortKey}
@@ -16,7 +16,7 @@ use Rattle.cohort_map.specs.declared.seat.Seat.{Seat}
 use Rattle.cohort_map.specs.Batches.{is_member, is_job}
 use Rattle.cohort_map.specs.Seats.{is_kept, is_at, at, seat_due, seat_ended, seat_marked, seat_opened, seat_moved, seat_freed, seat_closed, member_seen}
 use Rattle.cohort_map.specs.Choice.{is_among, is_next, with_cohort, chosen_cohorts, cohorts_by, batch_by}
-use Rattle.cohort_map.specs.Listed.{belongs, is_of_job, Lists, AreListed, NoneDue, IsKnown, IsFirstDue, is_in, HasPlaces, Gathers, IsLowered, no_seat, seen_by, seen_at}
+use Rattle.cohort_map.specs.Listed.{is_of_job, Lists, AreListed, NoneDue, IsKnown, IsFirstDue, is_in, HasPlaces, Gathers, IsLowered, no_seat, seen_by, seen_at}
 use Rattle.place_list.proofs.Ascending.{above_at}
 use Rattle.cohort_map.proofs.Listing.{all_got, from_map, from_push, has_item, IsFront}
 

@@ -1,4 +1,4 @@
-use Rattle.std.proofs.Common.{◌+◌, List, take, length, sym, subst}
+use Rattle.std.proofs.Common.{List, take, length, sym, subst}
 use Rattle.std.proofs.lemmas.List.{take_more, take_all}
 use Rattle.cohort_map.specs.declared.seat.Seat.{Seat}
 use Rattle.cohort_map.specs.Seats.{IsSound}

@@ -1,4 +1,4 @@
-use Rattle.std.proofs.Common.{◌∙◌, ap, sym}
+use Rattle.std.proofs.Common.{◌∙◌, sym}
 use Rattle.cohort_map.proofs.Copying.{goes, goes_unseen, ok_then}
 use Rattle.cohort_map.proofs.compact.copy_kept.Goals as goal
 

@@ -1,5 +1,4 @@
-use Rattle.std.proofs.Common.{◌≡◌, ◌∙◌, sym}
-use Rattle.std.specs.BTreeMap.{get}
+use Rattle.std.proofs.Common.{◌∙◌, sym}
 use Rattle.cohort_map.proofs.Copying.{IsGrown, member_listed, member_known}
 use Rattle.cohort_map.proofs.Listing.{IsPut, taken_lists, both_false, push_jobs, push_known}
 use Rattle.cohort_map.proofs.listed.list_member.Goals as goal

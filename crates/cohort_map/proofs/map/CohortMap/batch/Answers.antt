@@ -1,4 +1,4 @@
-use Rattle.std.proofs.Common.{◌≡◌, List, subst, length, IfOk}
+use Rattle.std.proofs.Common.{◌≡◌, List, subst, IfOk}
 use Rattle.cohort_map.specs.declared.member.Member.{Member}
 use Rattle.cohort_map.proofs.Chosen.{batch_seen}
 use Rattle.cohort_map.proofs.map.CohortMap.batch.Goals as goal

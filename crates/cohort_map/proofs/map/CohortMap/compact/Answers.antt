@@ -1,4 +1,4 @@
-use Rattle.std.proofs.Common.{◌≡◌, ◌∙◌, [], length, arith}
+use Rattle.std.proofs.Common.{◌∙◌, arith}
 use Rattle.cohort_map.specs.Copies.{Copies}
 use Rattle.cohort_map.proofs.Copying.{compacted, same_held, no_items}
 use Rattle.cohort_map.proofs.map.CohortMap.compact.Goals as goal

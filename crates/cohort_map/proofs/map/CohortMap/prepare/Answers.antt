@@ -1,8 +1,8 @@
-use Rattle.std.proofs.Common.{◌≡◌, ◌<◌, ◌∙◌, ap, sym, subst, true, length, arith, List, Some}
+use Rattle.std.proofs.Common.{◌≡◌, ◌∙◌, ap, sym, subst, true, length, arith, Some}
 use Rattle.std.proofs.lemmas.Bool.{false≢true}
 use Rattle.cohort_map.specs.declared.key.CohortKey.{CohortKey}
 use Rattle.cohort_map.specs.Entries.{Held, has_stream, is_entry, is_stream}
-use Rattle.cohort_map.specs.Seats.{IsCohortOf, IsSeated, IsSound, IsWithin, entries_of, ready_of}
+use Rattle.cohort_map.specs.Seats.{IsCohortOf, IsSound, IsWithin, entries_of, ready_of}
 use Rattle.cohort_map.proofs.Alls.{all_weaker}
 use Rattle.cohort_map.proofs.Views.{within_of}
 use Rattle.cohort_map.proofs.Finding.{cohort_within, entry_none}

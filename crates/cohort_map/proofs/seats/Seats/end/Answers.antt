@@ -1,4 +1,4 @@
-use Rattle.std.proofs.Common.{◌≡◌, ◌∙◌, ap, sym, subst, map, drop, length, List}
+use Rattle.std.proofs.Common.{◌∙◌, ap, sym, subst, map, drop, length, List}
 use Rattle.cohort_map.specs.declared.seat.Seat.{Seat}
 use Rattle.cohort_map.specs.Listed.{AreHeld, NoneDue}
 use Rattle.cohort_map.proofs.Alls.{whole}

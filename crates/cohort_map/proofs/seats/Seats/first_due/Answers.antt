@@ -1,4 +1,4 @@
-use Rattle.std.proofs.Common.{◌≡◌, ◌∙◌, ◌<◌, ap, sym, subst, length, arith, List, None}
+use Rattle.std.proofs.Common.{◌≡◌, ◌<◌, sym, subst, length, arith, List, None}
 use Rattle.std.specs.List.{find}
 use Rattle.cohort_map.specs.declared.seat.Seat.{Seat}
 use Rattle.cohort_map.specs.Seats.{seat_due}

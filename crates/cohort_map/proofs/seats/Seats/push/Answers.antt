@@ -1,4 +1,4 @@
-use Rattle.std.proofs.Common.{◌≡◌, ◌∙◌, ◌∷◌, ◌++◌, [], ◌≤◌, refl, sym, subst, drop, length, arith, List}
+use Rattle.std.proofs.Common.{◌∙◌, ◌≤◌, refl, sym, subst, drop, length, arith, List}
 use Rattle.cohort_map.specs.declared.seat.Seat.{Seat}
 use Rattle.place_list.specs.Places.{Places}
 use Rattle.cohort_map.specs.Listed.{AreHeld, IsAdded, IsChanged, NoneDue}

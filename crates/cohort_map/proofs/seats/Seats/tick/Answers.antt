@@ -1,4 +1,4 @@
-use Rattle.std.proofs.Common.{◌≡◌, ◌∙◌, ℕ, ◌≤◌, ap, sym, subst, map, drop, length, List, Bool}
+use Rattle.std.proofs.Common.{◌∙◌, ℕ, ◌≤◌, ap, sym, subst, map, drop, length, List}
 use Rattle.cohort_map.specs.declared.seat.Seat.{Seat}
 use Rattle.cohort_map.specs.Seats.{seat_ticked}
 use Rattle.cohort_map.specs.Listed.{AreHeld, NoneDue}
