@@ -1,7 +1,9 @@
-pub mod Orders
 pub mod Cuts
-pub mod Joins
-pub mod Scans
-pub mod Parts
-pub mod Results
 pub mod Examples
+pub mod Joins
+pub mod Means
+pub mod Orders
+pub mod Parts
+pub mod Pins
+pub mod Results
+pub mod Shown

@@ -1,3 +1,6 @@
 pub mod Example
+pub mod Nodes
+pub mod Pins
+pub mod Plans
 pub mod Seen
-pub mod Settings
+pub mod Sources

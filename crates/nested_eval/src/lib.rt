@@ -1,13 +1,16 @@
-//! One plan with one binding on one snapshot, by nested resolvers.
+//! One plan on one snapshot: its tables are read once, and then it is run with any number of bindings, by nested resolvers.
 #![tactic(auto)]
 
 mod cut;
+mod node;
 mod order;
 mod outcome;
-mod rows;
+mod pin;
+mod prepare;
+mod source;
 #[cfg(test)]
 mod tests;
 mod values;
 mod write;
 
-pub use outcome::eval;
+pub use outcome::{PreparedPlan, eval, eval_counted};

@@ -1,27 +1,24 @@
-//! The compact JSON text of what a selection gives.
-ghost use Rattle.std.specs.Prelude.{◌≡◌, ◌++◌, ◌∷◌, [], map, slice_get, unwrap_or, IsTrue, OnOk};
-ghost use Rattle.std.specs.List.{list_all};
-ghost use Rattle.json.specs.Print.{quoted};
-ghost use Rattle.scalar_val.specs.Joined.{parted};
+//! The compact JSON text of what a plan's selections give.
+ghost use Rattle.std.specs.Prelude.{◌≡◌, ◌++◌, map, IsTrue, OnOk};
+ghost use Rattle.scalar_val.specs.Joined.{parted, in_brackets};
 ghost use Rattle.scalar_val.specs.ValText.{val_text};
 ghost use Rattle.scalar_val.specs.Values.{cell};
+ghost use Rattle.plan_model.specs.Outcomes.{answer_text};
 ghost use Rattle.plan_model.specs.Taken.{First};
-ghost use Rattle.plan_model.specs.Outcomes.{Pair, object_text, answer_text};
-ghost use Rattle.plan_model.specs.Readiness.{is_ready_field};
-ghost use Rattle.nested_eval.specs.Seen.{seen};
-ghost use Rattle.nested_eval.specs.Settings.{runs, fields_run, pair_of, pairs_of, objects_of, text_of_rows, text_below};
+ghost use Rattle.nested_eval.specs.Seen.{seen, rows_of};
+ghost use Rattle.nested_eval.specs.Nodes.{object_of, texts_of, objects_of, part_text, node_text, part_ready, node_ready, parts_ready};
 
 use crate::cut::trimmed;
-use crate::rows::{Join, Setting, arranged_rows};
-use plan_core::{Field, Select, Shape};
+use crate::node::{Node, Part};
+use plan_core::{Binding, Shape};
 use row_store::Row;
-use scalar_val::{NoMemory, Str, Val, cell, write_json, write_quoted};
+use scalar_val::{NoMemory, Val, cell, write_json};
+use std::alloc::Global;
 
-pub(crate) fn put_key(key: &str, out: &mut Vec<u8>) -> Result<(), NoMemory>
-    ensures { OnOk result (out.new.items ≡ out.old.items ++ quoted key.now ++ 58 ∷ []) }
+pub(crate) fn append(bytes: &[u8], out: &mut Vec<u8>) -> Result<(), NoMemory>
+    ensures { OnOk result (out.new.items ≡ out.old.items ++ bytes.now) }
 {
-    write_quoted(key, out)?;
-    out.push(b':')?;
+    out.extend_from_slice(bytes)?;
     Ok(())
 }
 
@@ -32,119 +29,103 @@ fn put_cell(row: &Row, column: u32, out: &mut Vec<u8>) -> Result<(), NoMemory>
     write_json(cell(row.cells(), column, &null), out)
 }
 
-fn name_of(names: &[Str], table: u32) -> &str
-    ensures { result.now ≡ unwrap_or (slice_get names.now table) [] }
-{
-    match names.get(table as usize) {
-        Some(name) => name.as_str(),
-        None => "",
-    }
-}
-
-#[cycle(field)]
-fn put_field(
-    setting: &Setting<'_>,
-    field: &Field,
-    table: u32,
+#[cycle(part)]
+fn put_part(
+    alloc: Global,
+    binding: &Binding,
+    part: &Part<'_>,
     row: &Row,
     out: &mut Vec<u8>,
 ) -> Result<(), NoMemory>
-    requires { IsTrue (is_ready_field setting.now.snapshot.now.catalog setting.now.binding.now field.now) }
-    ensures { OnOk result (out.new.items ≡ out.old.items ++ pair_of setting.now field.now table row.now) }
+    requires { IsTrue (part_ready binding.now part.now) }
+    ensures { OnOk result (out.new.items ≡ out.old.items ++ part_text binding.now part.now row.now) }
 {
-    match field {
-        Field::Column { key, column } => {
-            put_key(key.as_str(), out)?;
+    match part {
+        Part::Column { key, column } => {
+            append(key.as_slice(), out)?;
             put_cell(row, *column, out)
         }
-        Field::Typename { key } => {
-            put_key(key.as_str(), out)?;
-            write_quoted(name_of(setting.names, table), out)
-        }
-        Field::Link {
-            key,
-            from,
-            to,
-            select,
-        } => {
-            put_key(key.as_str(), out)?;
-            let join = Join {
-                parent: row.cells(),
-                from: from.as_slice(),
-                to: to.as_slice(),
-            };
-            put_select(setting, select.get(), &join, out)
+        Part::Typename { text } => append(text.as_slice(), out),
+        Part::Link { key, node } => {
+            append(key.as_slice(), out)?;
+            put_node(alloc, binding, node.get(), row.cells(), out)
         }
     }
 }
 
-#[cycle(field)]
-fn put_select(
-    setting: &Setting<'_>,
-    select: &Select,
-    join: &Join<'_>,
+/// What a selection gives below a parent's row.
+#[cycle(part)]
+fn put_node(
+    alloc: Global,
+    binding: &Binding,
+    node: &Node<'_>,
+    parent: &[Val],
     out: &mut Vec<u8>,
 ) -> Result<(), NoMemory>
-    requires { IsTrue (runs setting.now select.now) }
-    ensures { OnOk result (out.new.items ≡ out.old.items ++ text_below setting.now select.now join.now) }
+    requires { IsTrue (node_ready binding.now node.now) }
+    ensures { OnOk result (out.new.items ≡ out.old.items ++ node_text binding.now node.now parent.now) }
 {
-    let arranged = arranged_rows(setting, select, join)?;
-    let rows = trimmed(select, setting.binding, arranged.as_slice());
-    put_answer(setting, select, rows, out)
-}
-
-/// The first object or null, or the list of all.
-#[cycle(field)]
-pub(crate) fn put_answer(
-    setting: &Setting<'_>,
-    select: &Select,
-    rows: &[&Row],
-    out: &mut Vec<u8>,
-) -> Result<(), NoMemory>
-    requires { IsTrue (runs setting.now select.now) }
-    ensures { OnOk result (out.new.items ≡ out.old.items ++ text_of_rows setting.now select.now (seen rows.now)) }
-{
-    let fields = select.fields.as_slice();
+    let source = &node.source;
+    let select = source.select();
     match &select.shape {
-        Shape::One => put_first(setting, fields, select.table, rows, out),
+        Shape::One => {
+            let first = source.first_shown(binding, parent);
+            put_one(alloc, binding, node.parts.as_slice(), first, out)
+        }
         _ => {
-            out.push(b'[')?;
-            put_objects(setting, fields, select.table, rows, out)?;
-            out.push(b']')?;
-            Ok(())
+            let arranged = source.arranged(alloc, binding, parent)?;
+            let rows = trimmed(select, binding, arranged.as_slice());
+            put_list(alloc, binding, node.parts.as_slice(), rows, out)
         }
     }
 }
 
-#[cycle(field)]
-fn put_first(
-    setting: &Setting<'_>,
-    fields: &[Field],
-    table: u32,
-    rows: &[&Row],
+/// The row's object, or null where there is none.
+#[cycle(part)]
+pub(crate) fn put_one(
+    alloc: Global,
+    binding: &Binding,
+    parts: &[Part<'_>],
+    row: Option<&Row>,
     out: &mut Vec<u8>,
 ) -> Result<(), NoMemory>
-    requires { IsTrue (fields_run setting.now fields.now) }
-    ensures { OnOk result (out.new.items ≡
-        out.old.items ++ answer_text First (objects_of setting.now fields.now table (seen rows.now))) }
+    requires { IsTrue (parts_ready binding.now parts.now) }
+    ensures { OnOk result (out.new.items ≡ out.old.items ++ answer_text First (objects_of binding.now parts.now (rows_of row.entry))) }
 {
-    match rows.first() {
-        Some(row) => put_object(setting, fields, table, row, out),
+    match row {
+        Some(row) => put_object(alloc, binding, parts, row, out),
         None => write_json(&Val::Null, out),
     }
 }
 
-#[cycle(field)]
-fn put_objects(
-    setting: &Setting<'_>,
-    fields: &[Field],
-    table: u32,
+/// The list of the rows' objects.
+#[cycle(part)]
+pub(crate) fn put_list(
+    alloc: Global,
+    binding: &Binding,
+    parts: &[Part<'_>],
     rows: &[&Row],
     out: &mut Vec<u8>,
 ) -> Result<(), NoMemory>
-    requires { IsTrue (fields_run setting.now fields.now) }
-    ensures { OnOk result (out.new.items ≡
-        out.old.items ++ parted 44 (objects_of setting.now fields.now table (seen rows.now))) }
+    requires { IsTrue (parts_ready binding.now parts.now) }
+    ensures { OnOk result (out.new.items ≡ out.old.items ++ in_brackets (objects_of binding.now parts.now (seen rows.now))) }
+{
+    out.push(b'[')?;
+    put_objects(alloc, binding, parts, rows, out)?;
+    out.push(b']')?;
+    Ok(())
+}
+
+#[cycle(part)]
+fn put_objects(
+    alloc: Global,
+    binding: &Binding,
+    parts: &[Part<'_>],
+    rows: &[&Row],
+    out: &mut Vec<u8>,
+) -> Result<(), NoMemory>
+    requires { IsTrue (parts_ready binding.now parts.now) }
+    ensures { OnOk result (out.new.items ≡ out.old.items ++ parted 44 (objects_of binding.now parts.now (seen rows.now))) }
 {
     let mut first = true;
     for row in rows {
@@ -153,49 +134,47 @@ fn put_objects(
         } else {
             out.push(b',')?;
         }
-        put_object(setting, fields, table, row, out)?;
+        put_object(alloc, binding, parts, row, out)?;
     }
     Ok(())
 }
 
-#[cycle(field)]
+#[cycle(part)]
 fn put_object(
-    setting: &Setting<'_>,
-    fields: &[Field],
-    table: u32,
+    alloc: Global,
+    binding: &Binding,
+    parts: &[Part<'_>],
     row: &Row,
     out: &mut Vec<u8>,
 ) -> Result<(), NoMemory>
-    requires { IsTrue (fields_run setting.now fields.now) }
-    ensures { OnOk result (out.new.items ≡
-        out.old.items ++ object_text (pairs_of setting.now fields.now) table row.now) }
+    requires { IsTrue (parts_ready binding.now parts.now) }
+    ensures { OnOk result (out.new.items ≡ out.old.items ++ object_of (map (part_text binding.now) parts.now) row.now) }
 {
     out.push(b'{')?;
-    put_fields(setting, fields, table, row, out)?;
+    put_parts(alloc, binding, parts, row, out)?;
     out.push(b'}')?;
     Ok(())
 }
 
-#[cycle(field)]
-fn put_fields(
-    setting: &Setting<'_>,
-    fields: &[Field],
-    table: u32,
+#[cycle(part)]
+fn put_parts(
+    alloc: Global,
+    binding: &Binding,
+    parts: &[Part<'_>],
     row: &Row,
     out: &mut Vec<u8>,
 ) -> Result<(), NoMemory>
-    requires { IsTrue (fields_run setting.now fields.now) }
-    ensures { OnOk result (out.new.items ≡
-        out.old.items ++ parted 44 (map (λ (p : Pair). p table row.now) (pairs_of setting.now fields.now))) }
+    requires { IsTrue (parts_ready binding.now parts.now) }
+    ensures { OnOk result (out.new.items ≡ out.old.items ++ parted 44 (texts_of (map (part_text binding.now) parts.now) row.now)) }
 {
     let mut first = true;
-    for field in fields {
+    for part in parts {
         if first {
             first = false;
         } else {
             out.push(b',')?;
         }
-        put_field(setting, field, table, row, out)?;
+        put_part(alloc, binding, part, row, out)?;
     }
     Ok(())
 }

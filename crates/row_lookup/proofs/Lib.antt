@@ -1,0 +1,4 @@
+pub mod Ascents
+pub mod Links
+pub mod Narrowings
+pub mod Steps

@@ -1,0 +1,5 @@
+pub mod Ascending
+pub mod Chaining
+pub mod Comparing
+pub mod Finding
+pub mod Narrowing
