@@ -1,4 +1,4 @@
-use Rattle.std.proofs.Common.{◌≡◌, ◌⊎◌, ℕ, List, [], ◌∷◌, Some, length, codes, refl, sym, subst, inl, inr}
+use Rattle.std.proofs.Common.{◌≡◌, ◌⊎◌, ℕ, List, ◌∷◌, Some, length, codes, refl, sym, subst, inl, inr}
 use Rattle.std.specs.Fmt.{decimal}
 use Rattle.serve_words.specs.declared.words.ServeWords.{ServeWords}
 use Rattle.serve_words.specs.Options.{value_of}
