@@ -18,8 +18,8 @@ pub(crate) fn read_job(text: &str) -> Option<u64>
     read_number(text, 1 << 64)
 }
 
-/// The number below a limit that a text writes in decimal without leading zeros.
-fn read_number(text: &str, limit: u128) -> Option<u64>
+/// The number below a limit that a text writes in decimal without leading zeros. The limit is from 1 to 2^64.
+pub fn read_number(text: &str, limit: u128) -> Option<u64>
     requires some { 0 < limit }
     requires fits { limit ≤ 2 ^ 64 }
     ensures { result ≡ read_number limit text.now }

@@ -24,7 +24,8 @@ use Rattle.subs_run.specs.Progress.{IsFew, IsRunning, StandsAt, HasStand, Advanc
 use Rattle.subs_run.proofs.Events.{open_are}
 
 advances_by : (t : LineResult) (took : LineOutcome) (runner after : Runner) (before now : List ℕ) →
-    LineRan t took runner.hub after.hub after.jobs.items before now → Advances t took (progress.Running after) before now
+    LineRan t took runner.hub after.hub after.jobs.items before now → Advances t took
+    (progress.Running after) before now
 advances_by line_result.Went (Went reading text) runner after before now ran =
     (record { history = ran.history; runs = ran.runs; is = ran.is }, ran.appended)
 advances_by line_result.Went (Faulty other) runner after before now ran = ran

@@ -328,7 +328,8 @@ recv_never k k' h c message does st =
 -- whether the connection is known doesn't rest on the message
 pub not_received : (k k' : Kept) (h : List Event) (c : ℕ) (message other : Message) (before after : List ℕ) →
     ConnAnswers k k' c (Receive c message) conn.ConnUnknown → StandsFor k h →
-    HubRan (line_result.Faulty reason.Unknown) (serves_known k.meta (run k.meta h) c (Receive c other)) k k' h before after
+    HubRan (line_result.Faulty reason.Unknown)
+    (serves_known k.meta (run k.meta h) c (Receive c other)) k k' h before after
 not_received k k' h c message other before after does st =
     serves_as (line_result.Faulty reason.Unknown) k k' h c (Receive c other) before after false
     (unknown_where k.meta (run k.meta h) c (Receive c message) (receive_on k.meta (run k.meta h) c message)

@@ -63,7 +63,12 @@ rest_of_piece seen piece i h = grind (arith, common_steps)
 pub room_after : (reader after : Reader) (b : ℕ) (more : ℕ) → (room : HasRoom reader (more + 1)) →
     HasRun after (room.seen ++ b ∷ []) → HasRoom after more
 room_after reader after b more room is =
-    record { seen = room.seen ++ b ∷ []; ran = is; within = omega (arith, length-append room.seen (b ∷ []), room.within) }
+    record {
+      seen = room.seen ++ b ∷ [];
+      ran = is;
+      within = omega
+          (arith, length-append room.seen (b ∷ []), room.within);
+    }
 
 pub room_of : (reader : Reader) (n m : ℕ) → m ≡ n → HasRoom reader n → HasRoom reader m
 room_of reader n m e room = subst (HasRoom reader) (sym e) room

@@ -100,7 +100,8 @@ known_by s f (Some x) ne = refl
 known_by s f None ne = absurd (ne refl)
 
 unknown_by : (s : State) (f : Connection → Step) (o : Option Connection) →
-    ((x : Connection) → (f x).reply ≢ ConnectionUnknown) → (on_known f s o).reply ≡ ConnectionUnknown → is_some o ≡ false
+    ((x : Connection) → (f x).reply ≢ ConnectionUnknown) → (on_known f s o).reply ≡ ConnectionUnknown →
+    is_some o ≡ false
 unknown_by s f (Some x) ne e = absurd (ne x e)
 unknown_by s f None ne e = refl
 

@@ -7,11 +7,13 @@ use Rattle.machine.specs.Lines.{Lines, onto_line, lines}
 abbrev pub onto : Lines → List ℕ → Lines
 onto s b = (s.0 ++ (lines (s.1 ++ b)).0, (lines (s.1 ++ b)).1)
 
-onto-onto_line : (x : ℕ) → (x == 10) ≡ false → (s : Lines) (b : List ℕ) → onto_line x (onto s b) ≡ onto (onto_line x s) b
+onto-onto_line : (x : ℕ) → (x == 10) ≡ false → (s : Lines) (b : List ℕ) →
+    onto_line x (onto s b) ≡ onto (onto_line x s) b
 onto-onto_line x h ([], r) b = rw h refl
 onto-onto_line x h (l ∷ ls, r) b = refl
 
-lines-cons : (x : ℕ) (test : Bool) → (x == 10) ≡ test → (a b : List ℕ) → lines (a ++ b) ≡ onto (lines a) b → lines (x ∷ a ++ b) ≡ onto (lines (x ∷ a)) b
+lines-cons : (x : ℕ) (test : Bool) → (x == 10) ≡ test → (a b : List ℕ) → lines (a ++ b) ≡ onto (lines a) b →
+    lines (x ∷ a ++ b) ≡ onto (lines (x ∷ a)) b
 lines-cons x true h a b e = rw (h, e) refl
 lines-cons x false h a b e = rw (h, e) (onto-onto_line x h (lines a) b)
 
@@ -35,7 +37,8 @@ lines-head x h a = rw h refl
 lines-end : (x : ℕ) → (x == 10) ≡ true → (a : List ℕ) → lines (x ∷ a) ≡ ([] ∷ (lines a).0, (lines a).1)
 lines-end x h a = rw h refl
 
-last-cons : (x : ℕ) (test : Bool) → (x == 10) ≡ test → (a : List ℕ) → IsPartial (lines a).1 → IsPartial (lines (x ∷ a)).1
+last-cons : (x : ℕ) (test : Bool) → (x == 10) ≡ test → (a : List ℕ) → IsPartial (lines a).1 →
+    IsPartial (lines (x ∷ a)).1
 last-cons x true h a p = subst (λ (s : Lines). IsPartial s.1) (sym (lines-end x h a)) p
 last-cons x false h a p = subst (λ (s : Lines). IsPartial s.1) (sym (lines-head x h a)) (last-before x h (lines a) p)
 
@@ -63,17 +66,22 @@ lines-line (x ∷ a) p = let e : (x == 10) ≡ false = p.0 in rw (e, lines-line 
 
 -- what one more byte does to the lines of a text
 pub push_byte : (a : List ℕ) (b : ℕ) → b ≢ 10 → lines (a ++ b ∷ []) ≡ ((lines a).0, (lines a).1 ++ b ∷ [])
-push_byte a b ne = lines-append a (b ∷ []) ∙ (ap (λ (s : Lines). ((lines a).0 ++ s.0, s.1)) (lines-push (lines a).1 b ne (last-partial a)) ∙ ap (λ (ls : List (List ℕ)). (ls, (lines a).1 ++ b ∷ [])) (append-nil (lines a).0))
+push_byte a b ne =
+    lines-append a (b ∷ [])
+    ∙ (ap (λ (s : Lines). ((lines a).0 ++ s.0, s.1)) (lines-push (lines a).1 b ne (last-partial a)) ∙ ap
+    (λ (ls : List (List ℕ)). (ls, (lines a).1 ++ b ∷ [])) (append-nil (lines a).0))
 
 pub push_end : (a : List ℕ) → lines (a ++ 10 ∷ []) ≡ ((lines a).0 ++ (lines a).1 ∷ [], [])
-push_end a = lines-append a (10 ∷ []) ∙ ap (λ (s : Lines). ((lines a).0 ++ s.0, s.1)) (lines-line (lines a).1 (last-partial a))
+push_end a =
+    lines-append a (10 ∷ []) ∙ ap (λ (s : Lines). ((lines a).0 ++ s.0, s.1)) (lines-line (lines a).1 (last-partial a))
 
 -- each line has its line end
 count-onto_line : (x : ℕ) (s : Lines) → length (onto_line x s).0 ≡ length s.0
 count-onto_line x ([], r) = refl
 count-onto_line x (l ∷ ls, r) = refl
 
-count-cons : (x : ℕ) (test : Bool) → (x == 10) ≡ test → (a : List ℕ) → length (lines a).0 ≤ length a → length (lines (x ∷ a)).0 ≤ length a + 1
+count-cons : (x : ℕ) (test : Bool) → (x == 10) ≡ test → (a : List ℕ) → length (lines a).0 ≤ length a →
+    length (lines (x ∷ a)).0 ≤ length a + 1
 count-cons x true h a p = rw h (omega arith)
 count-cons x false h a p = rw h (omega (arith, count-onto_line x (lines a)))
 

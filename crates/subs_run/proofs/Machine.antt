@@ -214,7 +214,8 @@ pub ticked : (meta : Metadata) (s : State) (count : ℕ) → (happens meta s Tic
     IsTicked s (happens meta s Tick).state count
 ticked meta s count e =
     let waits : Subscription → Bool = λ sub. sub.live && not (is_busy s.subscriptions s.jobs sub) in
-    let many : length (idle s.subscriptions s.jobs) ≡ count = the_count (length (idle s.subscriptions s.jobs)) count e in
+    let many : length (idle s.subscriptions s.jobs) ≡ count =
+    the_count (length (idle s.subscriptions s.jobs)) count e in
     record {
       due = many;
       few = omega (

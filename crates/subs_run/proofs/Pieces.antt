@@ -35,20 +35,23 @@ regroup read piece rest more e = ap (λ xs. read ++ xs) e ∙ sym (append_assoc 
 rest_is : (rest buf : List ℕ) (n : ℕ) → take n buf ≡ take n rest → rest ≡ take n buf ++ drop n rest
 rest_is rest buf n e = sym (take-append-drop n rest) ∙ ap (λ xs. xs ++ drop n rest) (sym e)
 
-pub read_more : (left mid left' : Option (List ℕ)) (seen buf : List ℕ) (n : ℕ) → WasRead left mid seen → Takes mid left' (got.Bytes n) buf → WasRead left left' (seen ++ take n buf)
+pub read_more : (left mid left' : Option (List ℕ)) (seen buf : List ℕ) (n : ℕ) → WasRead left mid seen →
+    Takes mid left' (got.Bytes n) buf → WasRead left left' (seen ++ take n buf)
 read_more left mid left' seen buf n read takes all told =
     let r = read all told in
     let t : GivesOf left' r.0 buf n = subst (λ l. Takes l left' (got.Bytes n) buf) r.2 takes in
     (drop n r.0, r.1 ∙ regroup seen (take n buf) r.0 (drop n r.0) (rest_is r.0 buf n t.0), t.2)
 
 -- how long what came is
-pub came : (left mid left' : Option (List ℕ)) (seen buf : List ℕ) (n : ℕ) (all : List ℕ) → WasRead left mid seen → Takes mid left' (got.Bytes n) buf → left ≡ Some all → (rest : List ℕ) × (all ≡ seen ++ rest) × (n ≤ length rest)
+pub came : (left mid left' : Option (List ℕ)) (seen buf : List ℕ) (n : ℕ) (all : List ℕ) → WasRead left mid seen →
+    Takes mid left' (got.Bytes n) buf → left ≡ Some all → (rest : List ℕ) × (all ≡ seen ++ rest) × (n ≤ length rest)
 came left mid left' seen buf n all read takes told =
     let r = read all told in
     let t : GivesOf left' r.0 buf n = subst (λ l. Takes l left' (got.Bytes n) buf) r.2 takes in
     (r.0, r.1, t.1)
 
-pub read_end : (left mid left' : Option (List ℕ)) (seen buf : List ℕ) → WasRead left mid seen → Takes mid left' got.End buf → (all : List ℕ) → left ≡ Some all → (all ≡ seen) × (left' ≡ Some [])
+pub read_end : (left mid left' : Option (List ℕ)) (seen buf : List ℕ) → WasRead left mid seen →
+    Takes mid left' got.End buf → (all : List ℕ) → left ≡ Some all → (all ≡ seen) × (left' ≡ Some [])
 read_end left mid left' seen buf read takes all told =
     let r = read all told in
     let t : (r.0 ≡ []) × (left' ≡ Some r.0) = subst (λ l. Takes l left' got.End buf) r.2 takes in
@@ -129,7 +132,8 @@ piece_came (piece_outcome.Read m) left mid left' written old new reader after bu
       },
       omega (arith, m_is),
     )
-piece_came (piece_outcome.Ended end) left mid left' written old new reader after buf count n a takes some within few took =
+piece_came (piece_outcome.Ended end) left mid left' written old new reader after buf count n a takes some within few
+    took =
     let long : length (take n buf) ≡ n = length-take-le n buf within in
     let other = not_source end took.0 in
     closed_as end left left' written old new a.seen a.lines (record {

@@ -132,7 +132,8 @@ remains_less k k' k'' h goal m n before mid after e r took =
     subst (λ (x : Metadata). Reaches k' k'' r.history (take_and_publish x (run x r.history)) mid after)
     r.later.meta took.1 in
     let first : Reached = take_and_publish k.meta s in
-    let came : run k.meta q.history ≡ first.state = ap (λ (x : Metadata). run x q.history) (sym r.later.meta) ∙ q.state in
+    let came : run k.meta q.history ≡ first.state =
+    ap (λ (x : Metadata). run x q.history) (sym r.later.meta) ∙ q.state in
     let split : publish_due k.meta m s s.due ≡ goes_on first (λ t. publish_due k.meta n t t.due) =
     ap (λ (x : ℕ). publish_due k.meta x s s.due) e ∙ due_more k.meta n s s.due due in
     record {

@@ -40,7 +40,8 @@ module _ (meant : List ℕ → Message) where
       ∙ ap (λ (x : List (List ℕ)). ran_as ((t ++ u) ++ more.text) x more.standing) (sym (append_assoc v w more.said))
   after_front t u v w number ms (Fault line reason) = refl
 
-  ran_on-goes_on : (n number : ℕ) (said : List (List ℕ)) (took : LineOutcome) (ms : List (List ℕ)) (f g : Reading → Ran) →
+  ran_on-goes_on : (n number : ℕ) (said : List (List ℕ)) (took : LineOutcome) (ms : List (List ℕ))
+      (f g : Reading → Ran) →
       ((r : Reading) → f r ≡ goes_on number ms (g r)) → ran_on n said took f ≡ goes_on number ms (ran_on n said took g)
   ran_on-goes_on n number said (Went reading t) ms f g e =
       ap (λ (r : Ran). ran_on n said (Went reading t) (λ _. r)) (e reading)

@@ -361,7 +361,8 @@ more_open (x ∷ jobs) job n has = more_by (x.number == n) (has_job jobs n) (has
 
 last_open : (jobs : List Job) (job : Job) → has_job (jobs ++ job ∷ []) job.number ≡ true
 last_open [] job = or_true_left (job.number == job.number) false (eq-eqb job.number job.number refl)
-last_open (x ∷ jobs) job = or_true_right (x.number == job.number) (has_job (jobs ++ job ∷ []) job.number) (last_open jobs job)
+last_open (x ∷ jobs) job =
+    or_true_right (x.number == job.number) (has_job (jobs ++ job ∷ []) job.number) (last_open jobs job)
 
 -- the open jobs after a take
 opens_one : (k k' : Kept) (h : List Event) (job : Job) → TookJob k k' job → StandsFor k h →
@@ -403,7 +404,8 @@ took k k' jobs others job h before after r t whole tells =
     ) in
     let old_open : AllByRecursion (λ n. has_job all n ≡ true) (numbers s.jobs) =
     all_then (λ n. has_job jobs n ≡ true) (λ n. has_job all n ≡ true) (λ n has. more_open jobs job n has)
-    (numbers s.jobs) (subst (AllByRecursion (λ n. has_job jobs n ≡ true)) (open_are k s r.stands.represents) r.has_open) in
+    (numbers s.jobs)
+    (subst (AllByRecursion (λ n. has_job jobs n ≡ true)) (open_are k s r.stands.represents) r.has_open) in
     let runs : RunsOn k' all h' = record {
       stands = hp.stands;
       taken = all_append (IsTaken k'.meta h') jobs (job ∷ [])

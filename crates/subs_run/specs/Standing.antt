@@ -27,7 +27,8 @@ Counts line_result.Went before after = (after.line.items ≡ []) × (after.lines
 Counts (line_result.Faulty reason) before after = after.lines_read ≡ before
 Counts line_result.NoMemory before after = Unit {0}
 
--- whatever the texts of clients mean: the reader keeps what stands behind the whole lines of these bytes, and counts these
+-- whatever the texts of clients mean: the reader keeps what stands behind the whole lines of these bytes, and counts
+-- them
 pub record Keeps (reader : Reader) (seen : List ℕ) : Type 0 where
   pub stands : HasStand reader.progress reader.lines_read
   pub line : reader.line.items ≡ (lines seen).1

@@ -127,8 +127,8 @@ fn run_recv(hub: &mut Hub, alloc: Global, conn: u32, text: &str, out: &mut Vec<u
 fn run_binary(hub: &mut Hub, alloc: Global, conn: u32, out: &mut Vec<u8>) -> LineResult
     requires { hub.old.events < 2 ^ 62 }
     ensures { (h : List Event) → StandsFor hub.old h →
-        HubRan result (serves_known hub.old.meta (run hub.old.meta h) conn (state.Binary conn)) hub.old hub.new h out.old.items
-        out.new.items }
+        HubRan result (serves_known hub.old.meta (run hub.old.meta h) conn (state.Binary conn)) hub.old hub.new h
+        out.old.items out.new.items }
 {
     match hub.binary(alloc, conn) {
         ConnReply::Did(effect) => went(write_binary(out, conn, &effect.queued, &effect.closed)),
@@ -140,8 +140,8 @@ fn run_binary(hub: &mut Hub, alloc: Global, conn: u32, out: &mut Vec<u8>) -> Lin
 fn run_timeout(hub: &mut Hub, alloc: Global, conn: u32, out: &mut Vec<u8>) -> LineResult
     requires { hub.old.events < 2 ^ 62 }
     ensures { (h : List Event) → StandsFor hub.old h →
-        HubRan result (serves_known hub.old.meta (run hub.old.meta h) conn (state.Timeout conn)) hub.old hub.new h out.old.items
-        out.new.items }
+        HubRan result (serves_known hub.old.meta (run hub.old.meta h) conn (state.Timeout conn)) hub.old hub.new h
+        out.old.items out.new.items }
 {
     match hub.timeout(alloc, conn) {
         ConnReply::Did(effect) => went(write_timeout(out, conn, &effect.queued, &effect.closed)),
@@ -153,8 +153,8 @@ fn run_timeout(hub: &mut Hub, alloc: Global, conn: u32, out: &mut Vec<u8>) -> Li
 fn run_gone(hub: &mut Hub, alloc: Global, conn: u32, out: &mut Vec<u8>) -> LineResult
     requires { hub.old.events < 2 ^ 62 }
     ensures { (h : List Event) → StandsFor hub.old h →
-        HubRan result (serves_known hub.old.meta (run hub.old.meta h) conn (state.Gone conn)) hub.old hub.new h out.old.items
-        out.new.items }
+        HubRan result (serves_known hub.old.meta (run hub.old.meta h) conn (state.Gone conn)) hub.old hub.new h
+        out.old.items out.new.items }
 {
     match hub.gone(alloc, conn) {
         ConnReply::Did(effect) => went(write_gone(out, conn, &effect.queued, &effect.closed)),
@@ -166,8 +166,8 @@ fn run_gone(hub: &mut Hub, alloc: Global, conn: u32, out: &mut Vec<u8>) -> LineR
 fn run_drain(hub: &mut Hub, conn: u32, out: &mut Vec<u8>) -> LineResult
     requires { hub.old.events < 2 ^ 62 }
     ensures { (h : List Event) → StandsFor hub.old h →
-        HubRan result (serves_known hub.old.meta (run hub.old.meta h) conn (state.Drain conn)) hub.old hub.new h out.old.items
-        out.new.items }
+        HubRan result (serves_known hub.old.meta (run hub.old.meta h) conn (state.Drain conn)) hub.old hub.new h
+        out.old.items out.new.items }
 {
     match hub.drain_one(conn) {
         DrainReply::Sent(text) => went(write_sent(out, conn, text.as_bytes())),

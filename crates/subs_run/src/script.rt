@@ -2,7 +2,16 @@ ghost use Rattle.std.specs.Prelude.{◌≡◌, ◌≢◌, ◌≤◌, ◌<◌, �
 ghost use Rattle.outside.specs.Ends.{Rose, Takes, HasCause};
 ghost use Rattle.machine.specs.Messages.{Message};
 ghost use Rattle.machine.specs.Script.{limit, outcome, output};
-ghost use Rattle.subs_run.specs.Runs.{Reads, EndsAs, IsToldWhole, HasRead, ReadWhole, WroteWholeLines, WroteFront, AtMost};
+ghost use Rattle.subs_run.specs.Runs.{
+  Reads,
+  EndsAs,
+  IsToldWhole,
+  HasRead,
+  ReadWhole,
+  WroteWholeLines,
+  WroteFront,
+  AtMost,
+};
 ghost use Rattle.subs_run.specs.Standing.{HasRoom};
 ghost use Rattle.subs_run.specs.Pieces.{Ends, ends, IsAt, LeadsTo, ClosedAs};
 

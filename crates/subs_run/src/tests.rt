@@ -1,5 +1,6 @@
 ghost use Rattle.std.specs.Prelude.{◌≡◌, ◌<◌};
 
+use crate::rows::{CLOSES, POLLS, QUEUES, REFUSALS, RESULTS, ROLES, Row, STREAMS};
 use crate::run_main;
 use outside::{MemSink, MemSource};
 use scalar_val::{NoMemory, Steps};
@@ -78,6 +79,66 @@ fn answer(alloc: Global, script: &[&str]) -> Result<(u8, Vec<u8>), Fail> {
     let mut sink = MemSink::new(alloc, Vec::new(alloc));
     let status = status_of(alloc, "run", &mut source, &mut sink)?;
     Ok((status, sink.as_slice().to_vec(alloc)?))
+}
+
+/// The place of the first script that isn't answered as it should be, from 0.
+fn wrong_row(alloc: Global, rows: &[Row]) -> Result<Option<usize>, Fail> {
+    for (place, (heading, lines, want)) in rows.iter().enumerate() {
+        let (status, told) = answer(alloc, &[heading, END, lines])?;
+        if status != 0 || told.as_slice() != want.as_bytes() {
+            return Ok(Some(place));
+        }
+    }
+    Ok(None)
+}
+
+#[test]
+fn polls_tell_what_changed(rt: HostRuntime) -> Result<(), Fail> {
+    let wrong = wrong_row(rt.alloc(), &POLLS)?;
+    assert_eq!(rt; wrong, None);
+    Ok(())
+}
+
+#[test]
+fn connections_are_closed_with_their_reasons(rt: HostRuntime) -> Result<(), Fail> {
+    let wrong = wrong_row(rt.alloc(), &CLOSES)?;
+    assert_eq!(rt; wrong, None);
+    Ok(())
+}
+
+#[test]
+fn roles_see_their_own_rows(rt: HostRuntime) -> Result<(), Fail> {
+    let wrong = wrong_row(rt.alloc(), &ROLES)?;
+    assert_eq!(rt; wrong, None);
+    Ok(())
+}
+
+#[test]
+fn results_are_ordered_and_cut(rt: HostRuntime) -> Result<(), Fail> {
+    let wrong = wrong_row(rt.alloc(), &RESULTS)?;
+    assert_eq!(rt; wrong, None);
+    Ok(())
+}
+
+#[test]
+fn streams_go_along_their_cursors(rt: HostRuntime) -> Result<(), Fail> {
+    let wrong = wrong_row(rt.alloc(), &STREAMS)?;
+    assert_eq!(rt; wrong, None);
+    Ok(())
+}
+
+#[test]
+fn requests_are_refused_by_name(rt: HostRuntime) -> Result<(), Fail> {
+    let wrong = wrong_row(rt.alloc(), &REFUSALS)?;
+    assert_eq!(rt; wrong, None);
+    Ok(())
+}
+
+#[test]
+fn queues_are_drained_and_counted(rt: HostRuntime) -> Result<(), Fail> {
+    let wrong = wrong_row(rt.alloc(), &QUEUES)?;
+    assert_eq!(rt; wrong, None);
+    Ok(())
 }
 
 #[test]
@@ -254,7 +315,16 @@ fn a_failing_sink_is_told(rt: HostRuntime) -> Result<(), Fail> {
 #[test]
 fn other_words_bring_the_usage_line(rt: HostRuntime) -> Result<(), Fail> {
     let alloc = rt.alloc();
-    for line in ["", "serve", "load 0", "run run"] {
+    for line in [
+        "",
+        "serve",
+        "run run",
+        "load",
+        "load 0",
+        "load 07",
+        "load 1001",
+        "load 1 1",
+    ] {
         let mut source = MemSource::new(TABLE.as_bytes().to_vec(alloc)?, 4096, Vec::new(alloc));
         let mut sink = MemSink::new(alloc, Vec::new(alloc));
         let got = status_of(alloc, line, &mut source, &mut sink)?;
@@ -263,6 +333,35 @@ fn other_words_bring_the_usage_line(rt: HostRuntime) -> Result<(), Fail> {
             sink.as_slice(),
             b"usage: subs COMMAND [WORDS]\n".as_slice()
         );
+        assert_eq!(rt; source.left(), TABLE.as_bytes());
+    }
+    Ok(())
+}
+
+// The lines are counted from the rules of the script: of one subscriber 9 up to the first result, 5 a round, and the
+// report. The digests are those of transcripts that another program makes from the rules.
+#[test]
+fn generated_scripts_are_summed_up(rt: HostRuntime) -> Result<(), Fail> {
+    let alloc = rt.alloc();
+    for (words, line) in [
+        (
+            "load 1",
+            "load 1 lines 60 sha256 3b6d44bdde17705db0e73957e3bc1741572c750cb7d6e396ff1087cec456f722\n",
+        ),
+        (
+            "load 7",
+            "load 7 lines 87 sha256 fc8e449a0e7a6145d9fa4d879ffa985a19539051b118cb66ee32e949cc9062c7\n",
+        ),
+        (
+            "load 100",
+            "load 100 lines 555 sha256 e0c0b2bfadf37c0088f51efd79ac4ce20bcc6877b61c81430d166b21b0efc5c5\n",
+        ),
+    ] {
+        let mut source = MemSource::new(TABLE.as_bytes().to_vec(alloc)?, 4096, Vec::new(alloc));
+        let mut sink = MemSink::new(alloc, Vec::new(alloc));
+        let status = status_of(alloc, words, &mut source, &mut sink)?;
+        assert_eq!(rt; status, 0);
+        assert_eq!(rt; sink.as_slice(), line.as_bytes());
         assert_eq!(rt; source.left(), TABLE.as_bytes());
     }
     Ok(())

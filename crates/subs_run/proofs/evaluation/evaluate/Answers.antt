@@ -23,4 +23,5 @@ loop-row-preserved c =
     one_more (λ (row : RelRow). planned job.plan row.binding job.snapshot.tables) job.relation
     c.as_slice-row-items.result.now c.loop-row.outcomes c.add.new.self c.loop-row.row-index c.row-item.result
     c.in_ok-outcome.outcome c.as_slice-row-items.ensures.rows c.loop-row-test.true c.row-item.is c.loop-row.invariant
-    (c.in_ok-outcome.ensures ∙ ap (λ p. planned p c.row-item.result.binding job.snapshot.tables) c.plan.ensures) c.in_ok-add.ensures.ok
+    (c.in_ok-outcome.ensures ∙ ap (λ p. planned p c.row-item.result.binding job.snapshot.tables) c.plan.ensures)
+    c.in_ok-add.ensures.ok

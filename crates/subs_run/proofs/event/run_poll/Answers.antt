@@ -14,5 +14,7 @@ returns c h st =
     let k' = c.poll.new.hub in
     hub_written c.went.result c.poll.result _ k k' h c.args.out.now.items c.poll.new.out.items c.went.ensures
     (λ ok. poll_ran k k' h c.args.out.now.items c.poll.new.out.items
-    (when_ok c.poll.result ((g : List Event) → StandsFor k g → Reaches k k' g (transcript.poll k.meta (run k.meta g)) c.args.out.now.items c.poll.new.out.items) c.poll.ensures.reaches ok h st)
+    (when_ok c.poll.result
+    ((g : List Event) → StandsFor k g → Reaches k k' g
+    (transcript.poll k.meta (run k.meta g)) c.args.out.now.items c.poll.new.out.items) c.poll.ensures.reaches ok h st)
     (when_ok c.poll.result (k'.events ≤ k.events + 1 + 2 * k.subscribed) c.poll.ensures.events ok))

@@ -17,9 +17,13 @@ returns-in-Ok-Did-clause-ran c meant h st says =
       message = some.0;
       some = some.1;
     } in
-    hub_written c.went.result c.write_recv.result _ c.args.hub.now c.recv.new.self h c.args.out.now.items c.write_recv.new.out.items c.went.ensures
-    (λ ok. received meant c.args.hub.now c.recv.new.self h c.args.conn text effect c.args.out.now.items c.write_recv.new.out.items answered st says
-    (when_ok c.write_recv.result ((m : Message) → Tells (Receive c.args.conn m) Did effect.queued (closes_of c.args.conn effect.closed) c.args.out.now.items c.write_recv.new.out.items) c.write_recv.ensures ok))
+    hub_written c.went.result c.write_recv.result _ c.args.hub.now c.recv.new.self h c.args.out.now.items
+    c.write_recv.new.out.items c.went.ensures
+    (λ ok. received meant c.args.hub.now c.recv.new.self h c.args.conn text effect c.args.out.now.items
+    c.write_recv.new.out.items answered st says
+    (when_ok c.write_recv.result
+    ((m : Message) → Tells (Receive c.args.conn m) Did effect.queued
+    (closes_of c.args.conn effect.closed) c.args.out.now.items c.write_recv.new.out.items) c.write_recv.ensures ok))
 
 pub returns-in-Ok-Did-clause-goes_on : goal.returns-in-Ok-Did-clause-goes_on
 returns-in-Ok-Did-clause-goes_on c h st =
@@ -42,4 +46,5 @@ returns-in-Ok-ConnKnown-clause-ran c meant h st says =
 pub returns-in-Ok-ConnUnknown-clause-ran : goal.returns-in-Ok-ConnUnknown-clause-ran
 returns-in-Ok-ConnUnknown-clause-ran c meant h st says =
     let some = rw c.in-Ok-ConnUnknown.field-0-is at c.in-Ok-ConnUnknown.ensures.some in
-    not_received c.args.hub.now c.recv.new.self h c.args.conn some.0 (meant c.args.text.now) c.args.out.now.items c.args.out.now.items some.1 st
+    not_received c.args.hub.now c.recv.new.self h c.args.conn some.0
+    (meant c.args.text.now) c.args.out.now.items c.args.out.now.items some.1 st

@@ -12,10 +12,14 @@ returns-then-abandon c h r =
     let jobs = c.args.runner.now.jobs.items in
     let others = c.remove_job-removed.new.jobs.items in
     let does = rw c.if-abandon.true at c.abandon.ensures in
-    line_written c.went.result c.write_abandoned.result _ k k' others c.args.out.now.items c.write_abandoned.new.out.items c.went.ensures
-    (λ ok. closed_ran k k' jobs others c.args.number c.remove_job-removed.result h (Abandon c.args.number) c.args.out.now.items c.write_abandoned.new.out.items r c.remove_job-removed.ensures
+    line_written c.went.result c.write_abandoned.result _ k k' others c.args.out.now.items
+    c.write_abandoned.new.out.items c.went.ensures
+    (λ ok. closed_ran k k' jobs others c.args.number c.remove_job-removed.result h
+    (Abandon c.args.number) c.args.out.now.items c.write_abandoned.new.out.items r c.remove_job-removed.ensures
     (abandoned k k' h c.args.number Abandoned c.args.out.now.items c.write_abandoned.new.out.items r.stands does tt
-    (when_ok c.write_abandoned.result (Tells (Abandon c.args.number) Abandoned [] [] c.args.out.now.items c.write_abandoned.new.out.items) c.write_abandoned.ensures ok))
+    (when_ok c.write_abandoned.result
+    (Tells (Abandon c.args.number) Abandoned [] [] c.args.out.now.items c.write_abandoned.new.out.items)
+    c.write_abandoned.ensures ok))
     (omega (arith, does.events)))
 
 pub returns-else-abandon : goal.returns-else-abandon
@@ -25,8 +29,12 @@ returns-else-abandon c h r =
     let jobs = c.args.runner.now.jobs.items in
     let others = c.remove_job-removed.new.jobs.items in
     let does = rw c.if-abandon.false at c.abandon.ensures in
-    line_written c.went-else-abandon.result c.write_not_open.result _ k k' others c.args.out.now.items c.write_not_open.new.out.items c.went-else-abandon.ensures
-    (λ ok. closed_ran k k' jobs others c.args.number c.remove_job-removed.result h (Abandon c.args.number) c.args.out.now.items c.write_not_open.new.out.items r c.remove_job-removed.ensures
+    line_written c.went-else-abandon.result c.write_not_open.result _ k k' others c.args.out.now.items
+    c.write_not_open.new.out.items c.went-else-abandon.ensures
+    (λ ok. closed_ran k k' jobs others c.args.number c.remove_job-removed.result h
+    (Abandon c.args.number) c.args.out.now.items c.write_not_open.new.out.items r c.remove_job-removed.ensures
     (abandoned k k' h c.args.number NotOpen c.args.out.now.items c.write_not_open.new.out.items r.stands does tt
-    (when_ok c.write_not_open.result (Tells (Abandon c.args.number) NotOpen [] [] c.args.out.now.items c.write_not_open.new.out.items) c.write_not_open.ensures.abandon ok))
+    (when_ok c.write_not_open.result
+    (Tells (Abandon c.args.number) NotOpen [] [] c.args.out.now.items c.write_not_open.new.out.items)
+    c.write_not_open.ensures.abandon ok))
     (omega (arith, does.events)))

@@ -11,12 +11,27 @@ publish_due-requires-clause-stands c =
 
 pub publish_due-requires-clause-few : goal.publish_due-requires-clause-few
 publish_due-requires-clause-few c =
-    omega (arith, c.tick-due.ensures.does.events, due_few c.args.hub.now c.tick-due.new.self c.requires.stands.0 c.tick-due.result c.tick-due.ensures.does c.requires.stands.1)
+    omega (
+      arith,
+      c.tick-due.ensures.does.events,
+      due_few c.args.hub.now c.tick-due.new.self c.requires.stands.0
+          c.tick-due.result c.tick-due.ensures.does c.requires.stands.1,
+    )
 
 pub returns-clause-reaches : goal.returns-clause-reaches
 returns-clause-reaches c =
-    IfOk-weaker c.publish_due.result _ _ (λ x reaches h st. polled c.args.hub.now c.tick-due.new.self c.publish_due.new.hub h c.tick-due.result c.args.out.now.items c.write_tick.new.out.items c.publish_due.new.out.items c.tick-due.ensures.does st c.in_ok-write_tick.ensures reaches) c.publish_due.ensures.reaches
+    IfOk-weaker c.publish_due.result _ _
+    (λ x reaches h st. polled c.args.hub.now c.tick-due.new.self c.publish_due.new.hub h c.tick-due.result
+    c.args.out.now.items c.write_tick.new.out.items c.publish_due.new.out.items c.tick-due.ensures.does st
+    c.in_ok-write_tick.ensures reaches) c.publish_due.ensures.reaches
 
 pub returns-clause-events : goal.returns-clause-events
 returns-clause-events c =
-    IfOk-weaker c.publish_due.result _ _ (λ x events. omega (arith, events, c.tick-due.ensures.does.events, due_few c.args.hub.now c.tick-due.new.self c.requires.stands.0 c.tick-due.result c.tick-due.ensures.does c.requires.stands.1)) c.publish_due.ensures.events
+    IfOk-weaker c.publish_due.result _ _
+    (λ x events. omega (
+      arith,
+      events,
+      c.tick-due.ensures.does.events,
+      due_few c.args.hub.now c.tick-due.new.self c.requires.stands.0
+          c.tick-due.result c.tick-due.ensures.does c.requires.stands.1,
+    )) c.publish_due.ensures.events

@@ -9,8 +9,12 @@ pub publish_job-requires-clause-job : goal.publish_job-requires-clause-job
 publish_job-requires-clause-job c =
     let taking = rw c.in-Some.is at c.in_ok-job.ensures.reply in
     let h : List Event = c.requires.stands.0 in
-    let h1 : List Event = h ++ Take ∷ [] in
-    (h1, (taking.does.happened h c.requires.stands.1).stands, subst (λ (m : Metadata). JobOf m c.in-Some.job h1) (sym taking.does.meta) (taking.is_job h c.requires.stands.1))
+    let h1 : List Event = h ++ Take ∷ [] in (
+      h1,
+      (taking.does.happened h c.requires.stands.1).stands,
+      subst (λ (m : Metadata). JobOf m c.in-Some.job h1)
+          (sym taking.does.meta) (taking.is_job h c.requires.stands.1),
+    )
 
 pub publish_job-requires-clause-fits : goal.publish_job-requires-clause-fits
 publish_job-requires-clause-fits c = let taking = rw c.in-Some.is at c.in_ok-job.ensures.reply in taking.fits
@@ -25,8 +29,10 @@ returns c =
     record {
       took = λ h st.
           let h1 : List Event = h ++ Take ∷ [] in
-          took_some c.args.hub.now c.take.new.self c.publish_job.new.hub h c.in-Some.job c.args.out.now.items c.write_taken.new.out.items c.publish_job.new.out.items taking st c.in_ok-write_taken.ensures
-          (c.in_ok-publish_job.ensures.closed h1 (taking.does.happened h st).stands (subst (λ (m : Metadata). JobOf m c.in-Some.job h1) (sym taking.does.meta) (taking.is_job h st)));
+          took_some c.args.hub.now c.take.new.self c.publish_job.new.hub h c.in-Some.job c.args.out.now.items
+          c.write_taken.new.out.items c.publish_job.new.out.items taking st c.in_ok-write_taken.ensures
+          (c.in_ok-publish_job.ensures.closed h1 (taking.does.happened h st).stands
+          (subst (λ (m : Metadata). JobOf m c.in-Some.job h1) (sym taking.does.meta) (taking.is_job h st)));
       events = omega (arith, taking.does.events, c.in_ok-publish_job.ensures.events);
     }
 

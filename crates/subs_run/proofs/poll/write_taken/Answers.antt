@@ -9,4 +9,7 @@ use Rattle.subs_run.proofs.poll.write_taken.Goals as goal
 
 pub returns : goal.returns
 returns c =
-    IfOk-weaker c.write_job.result _ _ (λ x tells. tells (job_of c.args.job.now) refl refl (sym (c.cohorts.ensures ∙ ap (λ (ms : List Member). cohorts (map member_of ms)) c.as_slice.ensures)) (length-map c.args.job.now.members member_of ∙ sym c.len-members.ensures)) c.write_job.ensures
+    IfOk-weaker c.write_job.result _ _
+    (λ x tells. tells (job_of c.args.job.now) refl refl
+    (sym (c.cohorts.ensures ∙ ap (λ (ms : List Member). cohorts (map member_of ms)) c.as_slice.ensures))
+    (length-map c.args.job.now.members member_of ∙ sym c.len-members.ensures)) c.write_job.ensures

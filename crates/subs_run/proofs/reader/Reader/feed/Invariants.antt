@@ -11,7 +11,9 @@ invariant-loop-byte g l =
     record {
       room : HasRoom l.self (length l.piece - l.byte-index);
       after : (seen : List ℕ) → HasRun l.fn.self seen → HasRun l.self (seen ++ front);
-      written : (meant : List ℕ → Message) (seen : List ℕ) → HasRun l.fn.self seen → AreRead meant (seen ++ front) → WritesOn (g.K.Sink.written l.fn.sink) (g.K.Sink.written l.sink) (ran meant seen).text (ran meant (seen ++ front)).text;
+      written : (meant : List ℕ → Message) (seen : List ℕ) → HasRun l.fn.self seen → AreRead meant (seen ++ front) →
+          WritesOn (g.K.Sink.written l.fn.sink) (g.K.Sink.written l.sink) (ran meant seen).text
+          (ran meant (seen ++ front)).text;
       later : g.K.Sink.faults l.fn.sink ≤ g.K.Sink.faults l.sink;
       steady : g.K.Sink.never_fails l.fn.sink → g.K.Sink.never_fails l.sink;
     }

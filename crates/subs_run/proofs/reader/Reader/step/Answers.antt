@@ -55,14 +55,16 @@ returns-in-Done-clause-all g c meant seen r says =
     let e : c.args.byte ≡ 10 = c.if-byte-ne10.false in
     let own : AreRead meant (seen ++ 10 ∷ []) = subst (λ (b : ℕ). AreRead meant (seen ++ b ∷ [])) e says in
     let text = end_text meant c.args.self.now c.take_line.new.self seen r c.in-Went.ensures.went own in
-    on_all _ _ _ _ c.take_line.new.self.out.items (rw c.deref.ensures.value at (c.in-Done.ensures.done refl)) (rw e text)
+    on_all _ _ _ _ c.take_line.new.self.out.items (rw c.deref.ensures.value at (c.in-Done.ensures.done refl))
+    (rw e text)
 
 pub returns-in-Failed-clause-all : goal.returns-in-Failed-clause-all
 returns-in-Failed-clause-all g c meant seen r says =
     let e : c.args.byte ≡ 10 = c.if-byte-ne10.false in
     let own : AreRead meant (seen ++ 10 ∷ []) = subst (λ (b : ℕ). AreRead meant (seen ++ b ∷ [])) e says in
     let text = end_text meant c.args.self.now c.take_line.new.self seen r c.in-Went.ensures.went own in
-    on_front _ _ _ _ c.take_line.new.self.out.items (rw c.deref.ensures.value at (c.in-Failed.ensures.front failed_not_done))
+    on_front _ _ _ _ c.take_line.new.self.out.items
+    (rw c.deref.ensures.value at (c.in-Failed.ensures.front failed_not_done))
     (rw e text)
 
 pub returns-in-NoMemory-write_all-clause-all : goal.returns-in-NoMemory-write_all-clause-all

@@ -19,12 +19,18 @@ pub returns-in-Faulty-clause-takes : goal.returns-in-Faulty-clause-takes
 returns-in-Faulty-clause-takes g c seen r within =
     let read : List ℕ = seen ++ c.args.piece.now in
     let fed = c.in-Faulty.ensures.fed seen r in (
-      neither c.fault.result (g.K.Sink.written c.feed.new.sink) (g.K.Sink.written c.fault.new.sink) (c.feed.new.self.lines_read + 1) c.in-Faulty.reason c.fault.ensures.closes,
+      neither c.fault.result (g.K.Sink.written c.feed.new.sink) (g.K.Sink.written c.fault.new.sink)
+          (c.feed.new.self.lines_read + 1) c.in-Faulty.reason c.fault.ensures.closes,
       λ meant rest reads.
-          let says : AreRead meant read = reads-front meant read rest (omega (arith, within, length-append seen c.args.piece.now)) reads in
-          ends_then meant c.fault.result (g.K.Sink.written c.args.sink.now) (g.K.Sink.written c.feed.new.sink) (g.K.Sink.written c.fault.new.sink) (ran meant seen).text (ran meant read).text (read ++ rest) (c.in-Faulty.ensures.all meant seen r says)
-          (ends_on meant c.fault.result (g.K.Sink.written c.feed.new.sink) (g.K.Sink.written c.fault.new.sink) (ran meant read).text (read ++ rest) _ c.fault.ensures.closes
-          (outcome-fault meant read rest (c.feed.new.self.lines_read + 1) c.in-Faulty.reason (omega (arith, within, length-append seen c.args.piece.now)) (fed.0 meant says))),
+          let says : AreRead meant read =
+          reads-front meant read rest (omega (arith, within, length-append seen c.args.piece.now)) reads in
+          ends_then meant c.fault.result (g.K.Sink.written c.args.sink.now) (g.K.Sink.written c.feed.new.sink)
+          (g.K.Sink.written c.fault.new.sink) (ran meant seen).text (ran meant read).text (read ++ rest)
+          (c.in-Faulty.ensures.all meant seen r says)
+          (ends_on meant c.fault.result (g.K.Sink.written c.feed.new.sink) (g.K.Sink.written c.fault.new.sink)
+          (ran meant read).text (read ++ rest) _ c.fault.ensures.closes
+          (outcome-fault meant read rest (c.feed.new.self.lines_read + 1) c.in-Faulty.reason
+          (omega (arith, within, length-append seen c.args.piece.now)) (fed.0 meant says))),
     )
 
 pub returns-in-SinkFailed-clause-takes : goal.returns-in-SinkFailed-clause-takes
@@ -32,8 +38,11 @@ returns-in-SinkFailed-clause-takes g c seen r within = (
   tt,
   λ meant rest reads.
       let read : List ℕ = seen ++ c.args.piece.now in
-      let says : AreRead meant read = reads-front meant read rest (omega (arith, within, length-append seen c.args.piece.now)) reads in
-      front_of_output meant (g.K.Sink.written c.args.sink.now) (g.K.Sink.written c.feed.new.sink) (ran meant seen).text read rest (omega (arith, within, length-append seen c.args.piece.now)) (c.in-SinkFailed.ensures.all meant seen r says),
+      let says : AreRead meant read =
+      reads-front meant read rest (omega (arith, within, length-append seen c.args.piece.now)) reads in
+      front_of_output meant (g.K.Sink.written c.args.sink.now) (g.K.Sink.written c.feed.new.sink)
+      (ran meant seen).text read rest (omega (arith, within, length-append seen c.args.piece.now))
+      (c.in-SinkFailed.ensures.all meant seen r says),
 )
 
 pub returns-in-NoMemory-clause-takes : goal.returns-in-NoMemory-clause-takes
@@ -41,6 +50,9 @@ returns-in-NoMemory-clause-takes g c seen r within = (
   tt,
   λ meant rest reads.
       let read : List ℕ = seen ++ c.args.piece.now in
-      let says : AreRead meant read = reads-front meant read rest (omega (arith, within, length-append seen c.args.piece.now)) reads in
-      front_of_output meant (g.K.Sink.written c.args.sink.now) (g.K.Sink.written c.feed.new.sink) (ran meant seen).text read rest (omega (arith, within, length-append seen c.args.piece.now)) (c.in-NoMemory.ensures.all meant seen r says),
+      let says : AreRead meant read =
+      reads-front meant read rest (omega (arith, within, length-append seen c.args.piece.now)) reads in
+      front_of_output meant (g.K.Sink.written c.args.sink.now) (g.K.Sink.written c.feed.new.sink)
+      (ran meant seen).text read rest (omega (arith, within, length-append seen c.args.piece.now))
+      (c.in-NoMemory.ensures.all meant seen r says),
 )
