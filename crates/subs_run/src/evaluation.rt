@@ -1,20 +1,23 @@
-ghost use Rattle.std.specs.Prelude.{◌≡◌, IfOk};
+ghost use Rattle.std.specs.Prelude.{◌≡◌, ◌≤◌, ◌+◌, IfOk};
+ghost use Rattle.plan_model.specs.Reads.{reads};
 ghost use Rattle.hub_model.specs.Jobs.{Fits, evaluated};
 
+use batch_join::eval_batch;
 use hub::{Job, OutcomeList};
-use nested_eval::eval;
-use scalar_val::{List, NoMemory};
+use scalar_val::{NoMemory, Steps};
 use std::alloc::Global;
+use std::sync::ledger::Ledger;
 
-/// The results of a job's cohorts on its snapshot, in order: one evaluation of its plan for each binding.
-pub(crate) fn evaluate(alloc: Global, job: &Job) -> Result<OutcomeList, NoMemory>
+/// The results of a job's cohorts on its snapshot, in order. It counts at most the rows that its plan reads, however many
+/// cohorts there are.
+pub(crate) fn evaluate<L: Ledger>(
+    alloc: Global,
+    job: &Job,
+    steps: &mut Steps<L>,
+) -> Result<OutcomeList, NoMemory>
     requires { Fits job.now }
-    ensures { IfOk result (λ outcomes. outcomes ≡ evaluated job.now) }
+    ensures outcomes { IfOk result (λ outcomes. outcomes ≡ evaluated job.now) }
+    ensures steps { steps.new ≤ steps.old + reads job.now.plan job.now.snapshot.tables }
 {
-    let mut outcomes = List::new(alloc);
-    for row in job.relation.as_slice() {
-        let outcome = eval(alloc, job.plan.plan(), &row.binding, &job.snapshot)?;
-        outcomes.add(outcome)?;
-    }
-    Ok(outcomes)
+    eval_batch(alloc, job.plan.plan(), &job.relation, &job.snapshot, steps)
 }

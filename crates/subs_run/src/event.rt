@@ -78,20 +78,25 @@ fn run_form<L: Ledger>(
         Line::Tick => run_tick(hub, out),
         Line::Report => run_report(hub, out),
         Line::Take => run_take(runner, alloc, out),
-        Line::Publish(number) => run_publish(runner, alloc, number, out),
+        Line::Publish(number) => run_publish(runner, alloc, number, out, steps),
         Line::Abandon(number) => run_abandon(runner, number, out),
-        Line::Poll => run_poll(hub, alloc, out),
+        Line::Poll => run_poll(hub, alloc, out, steps),
     }
 }
 
-fn run_poll(hub: &mut Hub, alloc: Global, out: &mut Vec<u8>) -> LineResult
+fn run_poll<L: Ledger>(
+    hub: &mut Hub,
+    alloc: Global,
+    out: &mut Vec<u8>,
+    steps: &mut Steps<L>,
+) -> LineResult
     requires stands { (h : List Event) × StandsFor hub.old h }
     requires few { hub.old.events + 1 + 2 * hub.old.subscribed < 2 ^ 62 }
     ensures { (h : List Event) → StandsFor hub.old h →
         HubRan result (script.went hub.old.meta (transcript.poll hub.old.meta (run hub.old.meta h))) hub.old hub.new h
         out.old.items out.new.items }
 {
-    went(poll(hub, alloc, out))
+    went(poll(hub, alloc, out, steps))
 }
 
 fn run_open(hub: &mut Hub, alloc: Global, conn: u32, out: &mut Vec<u8>) -> LineResult

@@ -15,9 +15,10 @@ use crate::line_result::{LineResult, went};
 use crate::poll::write_taken;
 use crate::runner::Runner;
 use hub::{Answers, Hub, Job, PublishReply};
-use scalar_val::NoMemory;
+use scalar_val::{NoMemory, Steps};
 use script_text::{write_abandoned, write_none, write_not_open, write_published};
 use std::alloc::Global;
+use std::sync::ledger::Ledger;
 
 pub(crate) fn run_take(runner: &mut Runner, alloc: Global, out: &mut Vec<u8>) -> LineResult
     requires { runner.old.hub.events < 2 ^ 62 }
@@ -60,11 +61,12 @@ fn remove_job(jobs: &mut Vec<Job>, number: u64) -> Option<Job>
     }
 }
 
-pub(crate) fn run_publish(
+pub(crate) fn run_publish<L: Ledger>(
     runner: &mut Runner,
     alloc: Global,
     number: u64,
     out: &mut Vec<u8>,
+    steps: &mut Steps<L>,
 ) -> LineResult
     requires stands { (h : List Event) × RunsOn runner.old.hub runner.old.jobs.items h }
     requires few { runner.old.hub.events < 2 ^ 62 }
@@ -73,17 +75,18 @@ pub(crate) fn run_publish(
         runner.new.hub runner.new.jobs.items out.old.items out.new.items }
 {
     match remove_job(&mut runner.jobs, number) {
-        Some(job) => went(publish_job(&mut runner.hub, alloc, &job, out)),
+        Some(job) => went(publish_job(&mut runner.hub, alloc, &job, out, steps)),
         None => went(write_not_open(out, number)),
     }
 }
 
 /// Evaluates a job and publishes its answers.
-pub(crate) fn publish_job(
+pub(crate) fn publish_job<L: Ledger>(
     hub: &mut Hub,
     alloc: Global,
     job: &Job,
     out: &mut Vec<u8>,
+    steps: &mut Steps<L>,
 ) -> Result<(), NoMemory>
     requires few { hub.old.events < 2 ^ 62 }
     requires job { (h : List Event) × StandsFor hub.old h × JobOf hub.old.meta job.now h }
@@ -92,7 +95,7 @@ pub(crate) fn publish_job(
         HasClosed hub.old hub.new h (state.Publish job.now.number) job.now.number out.old.items out.new.items) }
     ensures events { OnOk result (hub.new.events ≤ hub.old.events + 1) }
 {
-    let outcomes = evaluate(alloc, job)?;
+    let outcomes = evaluate(alloc, job, steps)?;
     let answers = Answers::of(job, outcomes);
     match hub.publish(alloc, answers) {
         Ok(PublishReply::Published(queued)) => {

@@ -11,12 +11,18 @@ ghost use Rattle.subs_run.specs.Events.{Reaches, TookOne};
 use crate::jobs::publish_job;
 use cohort_map::Member;
 use hub::{Hub, Job};
-use scalar_val::NoMemory;
+use scalar_val::{NoMemory, Steps};
 use script_text::{write_job, write_tick};
 use std::alloc::Global;
+use std::sync::ledger::Ledger;
 
 /// A tick, and then takes and publications for as long as somebody is due.
-pub(crate) fn poll(hub: &mut Hub, alloc: Global, out: &mut Vec<u8>) -> Result<(), NoMemory>
+pub(crate) fn poll<L: Ledger>(
+    hub: &mut Hub,
+    alloc: Global,
+    out: &mut Vec<u8>,
+    steps: &mut Steps<L>,
+) -> Result<(), NoMemory>
     requires stands { (h : List Event) × StandsFor hub.old h }
     requires few { hub.old.events + 1 + 2 * hub.old.subscribed < 2 ^ 62 }
     ensures reaches { OnOk result ((h : List Event) → StandsFor hub.old h →
@@ -25,11 +31,17 @@ pub(crate) fn poll(hub: &mut Hub, alloc: Global, out: &mut Vec<u8>) -> Result<()
 {
     let due = hub.tick();
     write_tick(out, due)?;
-    publish_due(hub, alloc, due, out)
+    publish_due(hub, alloc, due, out, steps)
 }
 
 /// So many takes and publications, but none once nobody is due.
-fn publish_due(hub: &mut Hub, alloc: Global, due: u64, out: &mut Vec<u8>) -> Result<(), NoMemory>
+fn publish_due<L: Ledger>(
+    hub: &mut Hub,
+    alloc: Global,
+    due: u64,
+    out: &mut Vec<u8>,
+    steps: &mut Steps<L>,
+) -> Result<(), NoMemory>
     requires stands { (h : List Event) × StandsFor hub.old h }
     requires few { hub.old.events + 2 * due < 2 ^ 62 }
     ensures reaches { OnOk result ((h : List Event) → StandsFor hub.old h →
@@ -38,7 +50,7 @@ fn publish_due(hub: &mut Hub, alloc: Global, due: u64, out: &mut Vec<u8>) -> Res
     ensures events { OnOk result (hub.new.events ≤ hub.old.events + 2 * due) }
 {
     for _round in 0..due {
-        if !take_and_publish(hub, alloc, out)? {
+        if !take_and_publish(hub, alloc, out, steps)? {
             return Ok(());
         }
     }
@@ -46,7 +58,12 @@ fn publish_due(hub: &mut Hub, alloc: Global, due: u64, out: &mut Vec<u8>) -> Res
 }
 
 /// A take, and the publication of the taken job: whether somebody was due.
-fn take_and_publish(hub: &mut Hub, alloc: Global, out: &mut Vec<u8>) -> Result<bool, NoMemory>
+fn take_and_publish<L: Ledger>(
+    hub: &mut Hub,
+    alloc: Global,
+    out: &mut Vec<u8>,
+    steps: &mut Steps<L>,
+) -> Result<bool, NoMemory>
     requires stands { (h : List Event) × StandsFor hub.old h }
     requires few { hub.old.events + 2 < 2 ^ 62 }
     ensures took { IfOk result (λ some. (h : List Event) → StandsFor hub.old h →
@@ -57,7 +74,7 @@ fn take_and_publish(hub: &mut Hub, alloc: Global, out: &mut Vec<u8>) -> Result<b
         return Ok(false);
     };
     write_taken(&job, out)?;
-    publish_job(hub, alloc, &job, out)?;
+    publish_job(hub, alloc, &job, out, steps)?;
     Ok(true)
 }
 

@@ -9,7 +9,7 @@ use Rattle.subs_run.proofs.Polls.{poll_ran}
 use Rattle.subs_run.proofs.event.run_poll.Goals as goal
 
 pub returns : goal.returns
-returns c h st =
+returns g c h st =
     let k = c.args.hub.now in
     let k' = c.poll.new.hub in
     hub_written c.went.result c.poll.result _ k k' h c.args.out.now.items c.poll.new.out.items c.went.ensures

@@ -11,7 +11,7 @@ use Rattle.subs_run.proofs.TakenJobs.{removed_one, closed_ran, none_published}
 use Rattle.subs_run.proofs.jobs.run_publish.Goals as goal
 
 pub publish_job-requires-clause-job : goal.publish_job-requires-clause-job
-publish_job-requires-clause-job c =
+publish_job-requires-clause-job g c =
     let k = c.args.runner.now.hub in
     let h : List Event = c.requires.stands.0 in
     let taken = removed_one (IsTaken k.meta h) c.args.runner.now.jobs.items c.remove_job.new.jobs.items c.in-Some.job
@@ -19,14 +19,14 @@ publish_job-requires-clause-job c =
     (h, c.requires.stands.1.stands, taken.is_job)
 
 pub publish_job-requires-clause-fits : goal.publish_job-requires-clause-fits
-publish_job-requires-clause-fits c =
+publish_job-requires-clause-fits g c =
     let k = c.args.runner.now.hub in
     let h : List Event = c.requires.stands.0 in
     (removed_one (IsTaken k.meta h) c.args.runner.now.jobs.items c.remove_job.new.jobs.items c.in-Some.job
     c.in-Some.ensures.0 c.requires.stands.1.taken).fits
 
 pub returns-in-Some : goal.returns-in-Some
-returns-in-Some c h r =
+returns-in-Some g c h r =
     let k = c.args.runner.now.hub in
     let k' = c.publish_job.new.hub in
     let job : Job = c.in-Some.job in
@@ -44,7 +44,7 @@ returns-in-Some c h r =
     (when_ok c.publish_job.result (k'.events ≤ k.events + 1) c.publish_job.ensures.events ok))
 
 pub returns-in-None : goal.returns-in-None
-returns-in-None c h r =
+returns-in-None g c h r =
     let k = c.args.runner.now.hub in
     let before : List ℕ = c.args.out.now.items in
     let after : List ℕ = c.write_not_open.new.out.items in

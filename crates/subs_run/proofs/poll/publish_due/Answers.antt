@@ -6,11 +6,11 @@ use Rattle.subs_run.proofs.Polls.{remains_less, nobody_remains}
 use Rattle.subs_run.proofs.poll.publish_due.Goals as goal
 
 pub take_and_publish-requires-clause-stands : goal.take_and_publish-requires-clause-stands
-take_and_publish-requires-clause-stands c =
+take_and_publish-requires-clause-stands g c =
     let r = c.loop-round.invariant.remains c.requires.stands.0 c.requires.stands.1 in (r.history, r.later.stands)
 
 pub returns-then-not-branch-clause-reaches : goal.returns-then-not-branch-clause-reaches
-returns-then-not-branch-clause-reaches c h st =
+returns-then-not-branch-clause-reaches g c h st =
     let k = c.args.hub.now in
     let r = c.loop-round.invariant.remains h st in
     nobody_remains k c.loop-round.hub c.take_and_publish.new.hub h
@@ -21,7 +21,7 @@ returns-then-not-branch-clause-reaches c h st =
     (c.in_ok-take_and_publish.ensures.took r.history r.later.stands))
 
 pub loop-round-preserved : goal.loop-round-preserved
-loop-round-preserved c = record {
+loop-round-preserved g c = record {
   remains = λ h st.
       let k = c.args.hub.now in
       let r = c.loop-round.invariant.remains h st in

@@ -6,7 +6,7 @@ use Rattle.subs_run.proofs.Polls.{took_some, took_none}
 use Rattle.subs_run.proofs.poll.take_and_publish.Goals as goal
 
 pub publish_job-requires-clause-job : goal.publish_job-requires-clause-job
-publish_job-requires-clause-job c =
+publish_job-requires-clause-job g c =
     let taking = rw c.in-Some.is at c.in_ok-job.ensures.reply in
     let h : List Event = c.requires.stands.0 in
     let h1 : List Event = h ++ Take ∷ [] in (
@@ -17,14 +17,14 @@ publish_job-requires-clause-job c =
     )
 
 pub publish_job-requires-clause-fits : goal.publish_job-requires-clause-fits
-publish_job-requires-clause-fits c = let taking = rw c.in-Some.is at c.in_ok-job.ensures.reply in taking.fits
+publish_job-requires-clause-fits g c = let taking = rw c.in-Some.is at c.in_ok-job.ensures.reply in taking.fits
 
 pub publish_job-requires-clause-few : goal.publish_job-requires-clause-few
-publish_job-requires-clause-few c =
+publish_job-requires-clause-few g c =
     let taking = rw c.in-Some.is at c.in_ok-job.ensures.reply in omega (arith, taking.does.events)
 
 pub returns : goal.returns
-returns c =
+returns g c =
     let taking = rw c.in-Some.is at c.in_ok-job.ensures.reply in
     record {
       took = λ h st.
@@ -37,5 +37,5 @@ returns c =
     }
 
 pub returns-in_default-clause-took : goal.returns-in_default-clause-took
-returns-in_default-clause-took c h st =
+returns-in_default-clause-took g c h st =
     took_none c.args.hub.now c.take.new.self h c.args.out.now.items (rw c.in_default.is at c.in_ok-job.ensures.reply) st
