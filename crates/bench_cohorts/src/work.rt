@@ -1,4 +1,4 @@
-//! Streams of one poller, each with a variable.
+//! Streams of some pollers, each with a variable.
 ghost use Rattle.std.specs.Prelude.{◌≡◌, ◌+◌, false, IfOk, OnOk};
 ghost use Rattle.scalar_val.specs.Values.{is_null};
 ghost use Rattle.stream_cursor.specs.Example.{HasStreams};
@@ -12,11 +12,12 @@ use stream_cursor::{Move, MoveList, rekey};
 
 const CANON: &str = "subscription post:post(where:{author_id:{_eq:$0}}){id:id title:title}";
 
-fn poller(alloc: Global) -> Result<PollerKey, NoMemory> {
+fn poller(alloc: Global, number: u32) -> Result<PollerKey, NoMemory> {
+    let canon = format!(in alloc; "{CANON}{number}")?;
     Ok(PollerKey {
         word: Word::Subscription,
         role: Str::of(alloc, "reader")?,
-        canon: Str::of(alloc, CANON)?,
+        canon: Str::of(alloc, canon.as_str())?,
     })
 }
 
@@ -34,20 +35,25 @@ fn binding(alloc: Global, variable: u32) -> Result<Binding, NoMemory>
     }
 }
 
-/// Joins so many subscriptions, of so many cohorts.
+/// The number of one of so many groups, in turn.
+fn group(number: u32, groups: u32) -> u32 {
+    if groups == 0 { 0 } else { number % groups }
+}
+
+/// Joins so many subscriptions, of so many values and so many pollers.
 pub fn join_all(
     alloc: Global,
     map: &mut CohortMap,
     count: u32,
-    cohorts: u32,
+    values: u32,
+    pollers: u32,
 ) -> Result<(), NoMemory>
     requires { HasStreams 1 map.old }
     ensures { OnOk result (HasStreams (count + 1) map.new) }
 {
     for number in 0..count {
-        let variable = if cohorts == 0 { 0 } else { number % cohorts };
-        let poller = poller(alloc)?;
-        let binding = binding(alloc, variable)?;
+        let poller = poller(alloc, group(number, pollers))?;
+        let binding = binding(alloc, group(number, values))?;
         map.join(alloc, number as u64 + 1, poller, binding)?;
     }
     Ok(())

@@ -1,10 +1,12 @@
 -- The turns of the loops that choose a batch among seats.
 use Rattle.std.specs.Prelude.{nat_lt}
-use Rattle.std.proofs.Common.{if◌then◌else◌, ◌≡◌, ◌∙◌, ℕ, ◌<◌, ◌≤◌, ◌+◌, Bool, true, false, ◌&&◌, Option, Some}
+use Rattle.std.proofs.Common.{if◌then◌else◌, ◌≡◌, ◌∙◌, ℕ, ◌<◌, ◌≤◌, ◌+◌, Bool, true, false, ◌&&◌, Option, Some, None}
 use Rattle.std.proofs.Common.{List, [], ◌∷◌, ◌++◌, length, drop, get_or, refl, sym, ap, subst, length-append, arith}
 use Rattle.std.proofs.lemmas.Bool.{ltb-true}
 use Rattle.std.proofs.lemmas.List.{at_drop_more, at_drop_all, append-nil}
-use Rattle.std.specs.List.{AllByRecursion, filter_map, find}
+use Rattle.std.specs.Option.{option_to_list}
+use Rattle.std.specs.List.{AllByRecursion, filter_map, cons_option, find, slice_get}
+use Rattle.place_list.specs.Places.{read_at}
 use Rattle.cohort_map.specs.declared.key.CohortKey.{CohortKey}
 use Rattle.cohort_map.specs.declared.seat.Seat.{Seat}
 use Rattle.cohort_map.specs.Choice.{is_next, with_cohort, chosen_cohorts}
@@ -59,3 +61,36 @@ taken_by keys limit first cs s b test = ap (λ (x : Bool). if x then cs ++ s.coh
 
 pub one_more : (cs : List ℕ) (c limit : ℕ) → length cs < limit → length (cs ++ c ∷ []) ≤ limit
 one_more cs c limit room = simp length-append (omega arith)
+
+next_bound : (keys : List CohortKey) (limit first : ℕ) (cs : List ℕ) (s : Seat) (b : Bool) → is_next keys limit first cs s ≡ b
+    → length cs ≤ limit → length (if b then cs ++ s.cohort ∷ [] else cs) ≤ limit
+next_bound keys limit first cs s true is bound = one_more cs s.cohort limit (has_room keys limit first cs s is)
+next_bound keys limit first cs s false is bound = bound
+
+pub with_bound : (keys : List CohortKey) (limit first : ℕ) (cs : List ℕ) (s : Seat) → length cs ≤ limit
+    → length (with_cohort keys limit first cs s) ≤ limit
+with_bound keys limit first cs s = next_bound keys limit first cs s (is_next keys limit first cs s) refl
+
+-- ---- the seat at a place
+
+pub option_bound : (keys : List CohortKey) (limit first : ℕ) (cs : List ℕ) (o : Option Seat) → length cs ≤ limit
+    → length (chosen_cohorts keys limit first cs (option_to_list o)) ≤ limit
+option_bound keys limit first cs None bound = bound
+option_bound keys limit first cs (Some s) bound = with_bound keys limit first cs s bound
+
+option_more : (keys : List CohortKey) (limit first : ℕ) (cs : List ℕ) (o : Option Seat) (seats : List Seat)
+    → chosen_cohorts keys limit first (chosen_cohorts keys limit first cs (option_to_list o)) seats
+    ≡ chosen_cohorts keys limit first cs (cons_option o seats)
+option_more keys limit first cs None seats = refl
+option_more keys limit first cs (Some s) seats = refl
+
+pub read_step : (keys : List CohortKey) (limit first : ℕ) (cs ds : List ℕ) (seats : List Seat) (ps : List ℕ) (i d : ℕ)
+    (all : List ℕ) → i < length ps
+    → ds ≡ chosen_cohorts keys limit first cs (option_to_list (slice_get seats (get_or ps i d)))
+    → chosen_cohorts keys limit first cs (read_at seats (drop i ps)) ≡ all
+    → chosen_cohorts keys limit first ds (read_at seats (drop (i + 1) ps)) ≡ all
+read_step keys limit first cs ds seats ps i d all within taken is =
+    ap (λ (es : List ℕ). chosen_cohorts keys limit first es (read_at seats (drop (i + 1) ps))) taken
+    ∙ option_more keys limit first cs (slice_get seats (get_or ps i d)) (read_at seats (drop (i + 1) ps))
+    ∙ sym (at_drop_more (λ (qs : List ℕ). chosen_cohorts keys limit first cs (read_at seats qs)) ps i d within)
+    ∙ is

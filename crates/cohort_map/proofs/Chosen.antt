@@ -106,15 +106,20 @@ and_false : (b : Bool) → (b && false) ≡ false
 and_false true = refl
 and_false false = refl
 
+and_true : (b : Bool) → (b && true) ≡ b
+and_true true = refl
+and_true false = refl
+
 picked_cons : (d p : Bool) (limit : ℕ) (cs : List ℕ) (s : Seat) (rest : List Seat) (go : List ℕ → List ℕ)
     → ((ds : List ℕ) → go ds ≡ pick limit ds rest) →
-    go (if nat_lt (length cs) limit && (d && (p && not (is_among s.cohort cs))) then cs ++ s.cohort ∷ [] else cs)
+    go (if nat_lt (length cs) limit && (d && (not (is_among s.cohort cs) && p)) then cs ++ s.cohort ∷ [] else cs)
     ≡ pick limit cs (if d && p then s ∷ rest else rest)
-picked_cons true true limit cs s rest go h = h _
-picked_cons true false limit cs s rest go h = rw (and_false (nat_lt (length cs) limit)) (h cs)
+picked_cons true true limit cs s rest go h = rw (and_true (not (is_among s.cohort cs))) (h _)
+picked_cons true false limit cs s rest go h =
+    rw (and_false (not (is_among s.cohort cs)), and_false (nat_lt (length cs) limit)) (h cs)
 picked_cons false p limit cs s rest go h = rw (and_false (nat_lt (length cs) limit)) (h cs)
 
-picked : (keys : List CohortKey) (limit first : ℕ) (cs : List ℕ) (seats : List Seat)
+pub picked : (keys : List CohortKey) (limit first : ℕ) (cs : List ℕ) (seats : List Seat)
     → chosen_cohorts keys limit first cs seats ≡ pick limit cs (filter (is_wanted keys first) seats)
 picked keys limit first cs [] = refl
 picked keys limit first cs (s ∷ seats) =
@@ -232,7 +237,7 @@ left_true : (a b : Bool) → (a && b) ≡ true → a ≡ true
 left_true true b h = refl
 left_true false b h = h
 
-kept_live : (l : Bool) (j : Option ℕ) → l ≡ true → (l || is_some j) ≡ true
+pub kept_live : (l : Bool) (j : Option ℕ) → l ≡ true → (l || is_some j) ≡ true
 kept_live true j h = refl
 kept_live false j h = absurd (cc)
 

@@ -1,6 +1,8 @@
 -- The first due seat, and the choice of a batch from it on and by lists of places.
 use Rattle.std.specs.Prelude.{nat_lt}
-use Rattle.std.proofs.Common.{if◌then◌else◌, ◌≡◌, ◌∙◌, ℕ, ◌<◌, ◌≤◌, ◌+◌, ◌-◌, zero, suc, Bool, true, false, ◌&&◌, ◌||◌, ◌==◌, Option, Some, None, is_some, List, [], ◌∷◌, ◌++◌, length, map, drop, take, get_or, eq-eqb, refl, sym, ap, subst, arith, ◌⊎◌, inl, inr}
+use Rattle.std.proofs.Common.{if◌then◌else◌, ◌≡◌, ◌∙◌, ℕ, ◌<◌, ◌≤◌, ◌+◌, ◌-◌, zero, suc, Bool, true, false, ◌&&◌, ◌||◌}
+use Rattle.std.proofs.Common.{◌==◌, Option, Some, None, is_some, List, [], ◌∷◌, ◌++◌, length, map, drop, take, get_or}
+use Rattle.std.proofs.Common.{eq-eqb, refl, sym, ap, subst, arith, ◌⊎◌, inl, inr}
 use Rattle.std.specs.Option.{option_map, option_to_list}
 use Rattle.std.proofs.lemmas.Bool.{cases_eq, eqb-true, le-ltb}
 use Rattle.std.specs.List.Sorted.{IsStrictlyIncreasing}
@@ -9,19 +11,32 @@ use Rattle.std.proofs.lemmas.List.Elements.{recursion_from_All, Contains-append_
 use Rattle.std.proofs.lemmas.List.Kept.{AllPairs-from_increasing}
 use Rattle.std.specs.List.{AllByRecursion, AllPairs, Contains, find, filter_map, cons_option, position_from, slice_get}
 use Rattle.place_list.specs.Places.{Places, Ascends, Covers, read_at}
-use Rattle.place_list.proofs.Reading.{read_map}
+use Rattle.place_list.proofs.Reading.{read_map, read_filter}
 use Rattle.cohort_map.specs.declared.key.CohortKey.{CohortKey}
 use Rattle.cohort_map.specs.declared.member.Member.{Member}
 use Rattle.cohort_map.specs.declared.seat.Seat.{Seat}
 use Rattle.cohort_map.specs.Batches.{is_member, is_job}
-use Rattle.cohort_map.specs.Seats.{is_kept, is_at, at, seat_due, seat_ended, seat_marked, seat_opened, seat_moved, seat_freed, seat_closed, member_seen}
-use Rattle.cohort_map.specs.Choice.{is_among, is_next, with_cohort, chosen_cohorts, cohorts_by, batch_by}
-use Rattle.cohort_map.specs.Listed.{is_of_job, Lists, AreListed, NoneDue, IsKnown, IsFirstDue, is_in, HasPlaces, Gathers, IsLowered, no_seat, seen_by, seen_at}
+use Rattle.cohort_map.specs.Seats.{IsSound, is_kept, is_at, at, seat_due, seat_ended, seat_marked, seat_opened}
+use Rattle.cohort_map.specs.Seats.{seat_moved, seat_freed, seat_closed, member_seen}
+use Rattle.cohort_map.specs.Choice.{polled_by, polled_with, is_among, is_next, with_cohort, chosen_cohorts, cohorts_by}
+use Rattle.cohort_map.specs.Choice.{batch_by}
+use Rattle.cohort_map.specs.Listed.{is_of_job, Lists, AreListed, NoneDue, IsKnown, IsFirstDue, is_in, HasPlaces}
+use Rattle.cohort_map.specs.Listed.{Gathers, IsLowered, no_seat, seen_by, seen_at}
 use Rattle.place_list.proofs.Ascending.{above_at}
+use Rattle.cohort_map.specs.Polled.{is_polled, is_of, HasRest}
+use Rattle.cohort_map.proofs.Chosen.{pick, picked, is_wanted, kept_live}
 use Rattle.cohort_map.proofs.Listing.{all_got, from_map, from_push, has_item, IsFront}
 
 some_same : {X : Type 0} (x y : X) → Some x ≡ Some y → x ≡ y
 some_same x y e = cc
+
+both_true : (a b : Bool) → (a && b) ≡ true → (a ≡ true) × (b ≡ true)
+both_true true b h = (refl, h)
+both_true false b h = absurd (cc)
+
+both : (a b : Bool) → a ≡ true → b ≡ true → (a && b) ≡ true
+both true b h k = k
+both false b h k = absurd (cc)
 
 -- ---- the first due seat
 
@@ -56,7 +71,8 @@ at_place [] p s at = absurd (cc)
 at_place (t ∷ seats) zero s at = some_same t s at
 at_place (t ∷ seats) (suc p) s at = at_place seats p s at
 
-pub none_more : (seats : List Seat) (p : ℕ) → NoneDue p seats → (get_or seats p no_seat).due ≡ false → NoneDue (p + 1) seats
+pub none_more : (seats : List Seat) (p : ℕ) → NoneDue p seats → (get_or seats p no_seat).due ≡ false
+    → NoneDue (p + 1) seats
 none_more seats p none rest i s at due =
     let least = none i s at due in
     elim (cases_eq i p) [
@@ -114,17 +130,22 @@ freed_due true true h = refl
 freed_due true false h = h
 freed_due false d h = absurd (cc)
 
-closed_due_by : (b due : Bool) (s : Seat) → (if b then seat_freed due s else s).due ≡ true → (s.due ≡ true) ⊎ ((b ≡ true) × (due ≡ true))
+closed_due_by : (b due : Bool) (s : Seat) → (if b then seat_freed due s else s).due ≡ true
+    → (s.due ≡ true) ⊎ ((b ≡ true) × (due ≡ true))
 closed_due_by true true s h = inr (refl, refl)
 closed_due_by true false s h = inl (freed_due s.live s.due h)
 closed_due_by false due s h = inl h
 
-below_all : (job first lowered i : ℕ) (seats : List Seat) (s : Seat) (l : Places) (due c : Bool) → l.complete ≡ c → due ≡ true
-    → Lists (is_of_job job) seats l → IsLowered first l due lowered → slice_get seats i ≡ Some s → is_of_job job s ≡ true
+below_all : (job first lowered i : ℕ) (seats : List Seat) (s : Seat) (l : Places) (due c : Bool) → l.complete ≡ c
+    → due ≡ true
+    → Lists (is_of_job job) seats l → IsLowered first l due lowered → slice_get seats i ≡ Some s
+    → is_of_job job s ≡ true
     → lowered ≤ i
 below_all job first lowered i seats s l due true complete is lists low at holds =
     low.places is complete i (lists complete i s at holds)
-below_all job first lowered i seats s l due false complete is lists low at holds = let none = low.all is complete in omega arith
+below_all job first lowered i seats s l due false complete is lists low at holds =
+    let none = low.all is complete in
+    omega arith
 
 pub closed_first : (seats : List Seat) (job : ℕ) (due : Bool) (first lowered : ℕ) (l : Places) → NoneDue first seats
     → Lists (is_of_job job) seats l → IsLowered first l due lowered → NoneDue lowered (map (seat_closed job due) seats)
@@ -135,14 +156,16 @@ closed_first seats job due first lowered l none lists low i t at h =
       | inr now ↦ below_all job first lowered i seats from.0 l due l.complete refl now.1 lists low from.1 now.0
     ]
 
-pub push_first : (seats : List Seat) (s : Seat) (first : ℕ) → s.due ≡ false → NoneDue first seats → NoneDue first (seats ++ s ∷ [])
+pub push_first : (seats : List Seat) (s : Seat) (first : ℕ) → s.due ≡ false → NoneDue first seats
+    → NoneDue first (seats ++ s ∷ [])
 push_first seats s first idle none i t at due =
     elim (from_push seats s i t at) [
       | inl old ↦ none i t old due
       | inr here ↦ (let wrong : false ≡ true = sym idle ∙ ap (λ (u : Seat). u.due) here.1 ∙ due in absurd (cc))
     ]
 
-pub front_first : (before after : List Seat) (first : ℕ) → IsFront before after → NoneDue first before → NoneDue first after
+pub front_first : (before after : List Seat) (first : ℕ) → IsFront before after → NoneDue first before
+    → NoneDue first after
 front_first before after first front none i s at due = none i s (front i s at) due
 
 pub none_before_start : (seats : List Seat) → NoneDue 0 seats
@@ -162,7 +185,8 @@ and_none : (a b : Bool) → b ≡ false → (a && b) ≡ false
 and_none true b h = h
 and_none false b h = refl
 
-no_cohort : (keys : List CohortKey) (limit first : ℕ) (cs : List ℕ) (s : Seat) → s.due ≡ false → with_cohort keys limit first cs s ≡ cs
+no_cohort : (keys : List CohortKey) (limit first : ℕ) (cs : List ℕ) (s : Seat) → s.due ≡ false
+    → with_cohort keys limit first cs s ≡ cs
 no_cohort keys limit first cs s rest =
     let next : is_next keys limit first cs s ≡ false =
     and_none (nat_lt (length cs) limit) _ (rw rest refl) in
@@ -182,14 +206,17 @@ pub batch_is : (keys : List CohortKey) (limit : ℕ) (seats : List Seat) (o : Op
 batch_is keys limit seats (Some g) f is = refl
 batch_is keys limit seats None f is = absurd (cc)
 
-pub first_cohort : (P : ℕ → Type 0) (seats : List Seat) (p : ℕ) → IsFirstDue seats p → AllByRecursion (λ s. P s.cohort) seats
+pub first_cohort : (P : ℕ → Type 0) (seats : List Seat) (p : ℕ) → IsFirstDue seats p
+    → AllByRecursion (λ s. P s.cohort) seats
     → P (get_or seats p no_seat).cohort
 first_cohort P seats p first all =
-    subst (λ (s : Seat). P s.cohort) (sym (at_place seats p first.seat first.at)) (all_got (λ s. P s.cohort) seats p first.seat all first.at)
+    subst (λ (s : Seat). P s.cohort) (sym (at_place seats p first.seat first.at))
+    (all_got (λ s. P s.cohort) seats p first.seat all first.at)
 
 pub chosen_from : (keys : List CohortKey) (limit c : ℕ) (seats : List Seat) (p : ℕ) → IsFirstDue seats p
     → c ≡ (get_or seats p no_seat).cohort
-    → chosen_cohorts keys limit c [] (take (length seats - p) (drop p seats)) ≡ cohorts_by keys limit seats (find seat_due seats)
+    → chosen_cohorts keys limit c [] (take (length seats - p) (drop p seats)) ≡ cohorts_by keys limit seats
+    (find seat_due seats)
 chosen_from keys limit c seats p first is =
     let of : c ≡ first.seat.cohort = is ∙ ap (λ (s : Seat). s.cohort) (at_place seats p first.seat first.at) in
     ap (chosen_cohorts keys limit c []) (take_rest seats p)
@@ -197,7 +224,43 @@ chosen_from keys limit c seats p first is =
     ∙ ap (λ (d : ℕ). chosen_cohorts keys limit d [] seats) of
     ∙ ap (cohorts_by keys limit seats) (sym first.is)
 
-full_cohort : (keys : List CohortKey) (limit first : ℕ) (cs : List ℕ) (s : Seat) → limit ≤ length cs → with_cohort keys limit first cs s ≡ cs
+same_polled : (k : CohortKey) (o : Option CohortKey) → polled_by (Some k) o ≡ is_polled k.poller o
+same_polled k None = refl
+same_polled k (Some l) = refl
+
+wanted_of : (keys : List CohortKey) (c : ℕ) (k : CohortKey) (s : Seat) → slice_get keys c ≡ Some k
+    → (s.due ≡ true → s.live ≡ true) → is_wanted keys c s ≡ true → is_of keys k.poller s ≡ true
+wanted_of keys c k s at lives wanted =
+    let parts = both_true s.due (polled_with keys c s.cohort) wanted in
+    let polled : is_polled k.poller (slice_get keys s.cohort) ≡ true =
+    sym (same_polled k (slice_get keys s.cohort))
+    ∙ ap (λ (o : Option CohortKey). polled_by o (slice_get keys s.cohort)) (sym at) ∙ parts.1 in
+    both (is_kept s) (is_polled k.poller (slice_get keys s.cohort)) (kept_live s.live s.job (lives parts.0)) polled
+
+wanted_covers : (keys : List CohortKey) (c : ℕ) (k : CohortKey) (seats : List Seat) (first : ℕ) (places : List ℕ)
+    → slice_get keys c ≡ Some k → AllByRecursion (IsSound (length keys)) seats → NoneDue first seats
+    → HasRest keys k.poller seats first places → Covers (is_wanted keys c) seats places
+wanted_covers keys c k seats first places at sound none rest i s is wanted =
+    let lives = (all_got (IsSound (length keys)) seats i s sound is).lives in
+    let due = (both_true s.due (polled_with keys c s.cohort) wanted).0 in
+    rest.covers i s is (wanted_of keys c k s at lives wanted) (none i s is due)
+
+-- the cohorts that are chosen by a poller's list
+pub chosen_listed : (keys : List CohortKey) (limit c : ℕ) (k : CohortKey) (seats : List Seat) (p : ℕ) (places : List ℕ)
+    → IsFirstDue seats p → c ≡ (get_or seats p no_seat).cohort → slice_get keys c ≡ Some k
+    → AllByRecursion (IsSound (length keys)) seats → HasRest keys k.poller seats p places
+    → chosen_cohorts keys limit c [] (read_at seats places) ≡ cohorts_by keys limit seats (find seat_due seats)
+chosen_listed keys limit c k seats p places first is at sound rest =
+    let of : c ≡ first.seat.cohort = is ∙ ap (λ (s : Seat). s.cohort) (at_place seats p first.seat first.at) in
+    let covers = wanted_covers keys c k seats p places at sound first.before rest in
+    picked keys limit c [] (read_at seats places)
+    ∙ ap (pick limit []) (read_filter (is_wanted keys c) (is_wanted keys c) seats places rest.ascend covers (λ s h. h))
+    ∙ sym (picked keys limit c [] seats)
+    ∙ ap (λ (d : ℕ). chosen_cohorts keys limit d [] seats) of
+    ∙ ap (cohorts_by keys limit seats) (sym first.is)
+
+full_cohort : (keys : List CohortKey) (limit first : ℕ) (cs : List ℕ) (s : Seat) → limit ≤ length cs
+    → with_cohort keys limit first cs s ≡ cs
 full_cohort keys limit first cs s full =
     let next : is_next keys limit first cs s ≡ false = rw (le-ltb (length cs) limit full) refl in
     ap (λ (b : Bool). if b then cs ++ s.cohort ∷ [] else cs) next
@@ -211,7 +274,8 @@ chosen_full keys limit first cs (s ∷ seats) full =
 
 -- ---- members by lists
 
-cons_is : {X : Type 0} (ms : List X) (o : Option X) (rest : List X) → (ms ++ option_to_list o) ++ rest ≡ ms ++ cons_option o rest
+cons_is : {X : Type 0} (ms : List X) (o : Option X) (rest : List X)
+    → (ms ++ option_to_list o) ++ rest ≡ ms ++ cons_option o rest
 cons_is [] None rest = refl
 cons_is [] (Some m) rest = refl
 cons_is (n ∷ ms) o rest = ap (λ (ns : List _). n ∷ ns) (cons_is ms o rest)
@@ -235,7 +299,8 @@ seen_step f ms ns all xs i d within is so =
     seen_more f ms ns all (get_or xs i d) (drop (i + 1) xs) is
     (ap (λ (ys : List _). ms ++ filter_map f ys) (sym (drop_more xs i d within)) ∙ so)
 
-placed_among : (c : ℕ) (i : ℕ) (cohorts : List ℕ) → is_some (position_from (λ d. d == c) i cohorts) ≡ true → is_among c cohorts ≡ true
+placed_among : (c : ℕ) (i : ℕ) (cohorts : List ℕ) → is_some (position_from (λ d. d == c) i cohorts) ≡ true
+    → is_among c cohorts ≡ true
 placed_among c i [] some = absurd (cc)
 placed_among c i (d ∷ cohorts) some = among_by c i d cohorts (d == c) some (placed_among c (i + 1) cohorts)
 
@@ -244,7 +309,8 @@ map_some f None some = some
 map_some f (Some x) some = refl
 
 seen_in_by : (l : Bool) (j : Option ℕ) (n c : ℕ) (cohorts : List ℕ)
-    → is_some {T = Member} (if l then option_map (λ place. record { sub = n; id = place + 1 }) (position_from (λ d. d == c) 0 cohorts) else None) ≡ true
+    → is_some {T = Member} (if l then option_map (λ place. record { sub = n; id = place + 1 })
+    (position_from (λ d. d == c) 0 cohorts) else None) ≡ true
     → ((l || is_some j) && is_among c cohorts) ≡ true
 seen_in_by true j n c cohorts some = placed_among c 0 cohorts (map_some _ (position_from (λ d. d == c) 0 cohorts) some)
 seen_in_by false j n c cohorts some = absurd (cc)
@@ -252,7 +318,8 @@ seen_in_by false j n c cohorts some = absurd (cc)
 pub seen_in : (cohorts : List ℕ) (s : Seat) → is_some (member_seen cohorts s) ≡ true → is_in cohorts s ≡ true
 seen_in cohorts s some = seen_in_by s.live s.job s.number s.cohort cohorts some
 
-one_read : (cohorts : List ℕ) (o : Option Seat) (ms : List Member) (xs : List Seat) → ms ≡ filter_map (member_seen cohorts) xs
+one_read : (cohorts : List ℕ) (o : Option Seat) (ms : List Member) (xs : List Seat)
+    → ms ≡ filter_map (member_seen cohorts) xs
     → cons_option (seen_by cohorts o) ms ≡ filter_map (member_seen cohorts) (cons_option o xs)
 one_read cohorts None ms xs same = same
 one_read cohorts (Some s) ms xs same = ap (cons_option (member_seen cohorts s)) same
@@ -261,7 +328,8 @@ all_read : (cohorts : List ℕ) (seats : List Seat) (ps : List ℕ)
     → filter_map (seen_at cohorts seats) ps ≡ filter_map (member_seen cohorts) (read_at seats ps)
 all_read cohorts seats [] = refl
 all_read cohorts seats (p ∷ ps) =
-    one_read cohorts (slice_get seats p) (filter_map (seen_at cohorts seats) ps) (read_at seats ps) (all_read cohorts seats ps)
+    one_read cohorts (slice_get seats p) (filter_map (seen_at cohorts seats) ps) (read_at seats ps)
+    (all_read cohorts seats ps)
 
 pub members_read : (seats : List Seat) (cohorts ps : List ℕ) → HasPlaces seats cohorts ps
     → filter_map (seen_at cohorts seats) ps ≡ filter_map (member_seen cohorts) seats
@@ -271,14 +339,6 @@ members_read seats cohorts ps has =
 
 -- ---- lists that are put together
 
-both_true : (a b : Bool) → (a && b) ≡ true → (a ≡ true) × (b ≡ true)
-both_true true b h = (refl, h)
-both_true false b h = absurd (cc)
-
-both : (a b : Bool) → a ≡ true → b ≡ true → (a && b) ≡ true
-both true b h k = k
-both false b h k = absurd (cc)
-
 self_equal : (n : ℕ) → (n == n) ≡ true
 self_equal n = eq-eqb n n refl
 
@@ -287,7 +347,8 @@ pub gathered_covers : (seats : List Seat) (lists : List Places) (cohorts ps : Li
 gathered_covers seats lists cohorts ps listed gathers i s at holds =
     let parts = both_true (is_kept s) (is_among s.cohort cohorts) holds in
     let from = gathers s.cohort parts.1 in
-    from.3 i (listed s.cohort from.0 from.1 from.2 i s at (both (is_kept s) (s.cohort == s.cohort) parts.0 (self_equal s.cohort)))
+    let here = both (is_kept s) (s.cohort == s.cohort) parts.0 (self_equal s.cohort) in
+    from.3 i (listed s.cohort from.0 from.1 from.2 i s at here)
 
 pub gathers_none : (lists : List Places) (all : List ℕ) → Gathers lists [] all
 gathers_none lists all c among = absurd (cc)
@@ -346,7 +407,8 @@ pub increasing_ascends : (ps : List ℕ) → IsStrictlyIncreasing ps → Ascends
 increasing_ascends ps rises = pairs_ascend ps (AllPairs-from_increasing ps rises)
 
 pub gathered_places : (seats : List Seat) (lists : List Places) (cohorts ps ordered : List ℕ) → AreListed seats lists
-    → Gathers lists cohorts ps → Ascends ordered → ((p : ℕ) → Contains ps p → Contains ordered p) → HasPlaces seats cohorts ordered
+    → Gathers lists cohorts ps → Ascends ordered → ((p : ℕ) → Contains ps p → Contains ordered p)
+    → HasPlaces seats cohorts ordered
 gathered_places seats lists cohorts ps ordered listed gathers up keeps = record {
   ascend = up;
   covers = λ i s at holds. keeps i (gathered_covers seats lists cohorts ps listed gathers i s at holds);

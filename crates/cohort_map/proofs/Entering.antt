@@ -1,6 +1,6 @@
 -- A subscription that joins, and a pair that is made ready.
 use Rattle.std.proofs.Common.{◌≡◌, ◌∙◌, ℕ, ◌<◌, ◌≤◌, Bool, true, false, ◌&&◌, ◌||◌, Option, Some, None, List, [], ◌∷◌, ◌++◌, length, refl, sym, ap, subst, arith, if◌then◌else◌}
-use Rattle.std.proofs.Common.{Result, Ok, Err, OnErr}
+use Rattle.std.proofs.Common.{◌+◌, Result, Ok, Err, OnErr}
 use Rattle.std.specs.List.{All, AllByRecursion, list_any, find, slice_get}
 use Rattle.std.proofs.lemmas.List.Elements.{filter_map-append}
 use Rattle.scalar_val.specs.declared.val.Val.{Val}
@@ -8,8 +8,14 @@ use Rattle.cohort_map.specs.declared.key.CohortKey.{CohortKey}
 use Rattle.cohort_map.specs.declared.seat.Seat.{Seat}
 use Rattle.cohort_map.specs.declared.seat.ReadySeat.{ReadySeat}
 use Rattle.cohort_map.specs.Entries.{Entry, Ready}
-use Rattle.cohort_map.specs.Seats.{Rise, is_at, entry_with, entries_of, ready_seen, ready_of, CanMove, IsReady, IsSeated, IsCohortOf, IsCut, EndsKept}
+use Rattle.cohort_map.specs.Seats.{Rise, is_at, entry_with, entries_of, ready_seen, ready_of, CanMove, IsReady, IsSeated, IsSound, IsCohortOf, IsCut, EndsKept}
+use Rattle.std.specs.BTreeMap.{BTreeMap}
+use Rattle.place_list.specs.Places.{Places}
+use Rattle.cohort_map.specs.declared.key.PollerKey.{PollerKey}
+use Rattle.cohort_map.specs.Polled.{ArePolled, AreMade}
 use Rattle.cohort_map.proofs.Alls.{all_more, all_weaker, all_from}
+use Rattle.cohort_map.proofs.Listing.{cut_front}
+use Rattle.cohort_map.proofs.Polling.{polled_front, polled_more, polled_made}
 use Rattle.cohort_map.proofs.Finding.{found}
 use Rattle.cohort_map.proofs.Rising.{number_of}
 use Rattle.cohort_map.proofs.Rehoming.{moved_key, got_within}
@@ -34,6 +40,17 @@ kept_seen keys more seats cut ready stay is seated =
 pub kept_ready : (keys more : List CohortKey) (seats : List Seat) (ready : List ReadySeat) → Stay keys more →
     IsSeated keys seats ready → ready_of more ready ≡ ready_of keys ready
 kept_ready keys more seats ready stay seated = more_ready_seen keys more seats ready stay seated.movable
+
+pub kept_polled : (keys more : List CohortKey) (seats cut : List Seat) (before after : BTreeMap PollerKey Places)
+    → Stay keys more → AllByRecursion (IsSound (length keys)) seats → IsCut seats cut → AreMade before after
+    → ArePolled keys seats before → ArePolled more cut after
+kept_polled keys more seats cut before after stay sound is made polled =
+    polled_front more seats cut after (cut_front seats cut is)
+    (polled_more keys more seats after stay sound (polled_made keys seats before after made polled))
+
+pub same_key : (keys : List CohortKey) (c : ℕ) (k l : CohortKey) → slice_get keys c ≡ Some k → slice_get keys c ≡ Some l
+    → k ≡ l
+same_key keys c k l at_k at_l = let same : Some k ≡ Some l = sym at_k ∙ at_l in cc
 
 -- ---- a seat more
 
@@ -62,6 +79,15 @@ pub new_seen : (keys more : List CohortKey) (seats cut : List Seat) (ready : Lis
 new_seen keys more seats cut ready n c key stay is at seated =
     joined_seen more cut (new_seat n c) key at refl
     ∙ ap (λ (es : List Entry). es ++ entry_with (new_seat n c) key ∷ []) (kept_seen keys more seats cut ready stay is seated)
+
+-- each number is below the next one
+pub below_more : (entries all : List Entry) (n : ℕ) (e : Entry) → e.number ≡ n
+    → AllByRecursion (λ (f : Entry). f.number < n) entries → all ≡ entries ++ e ∷ []
+    → AllByRecursion (λ (f : Entry). f.number < n + 1) all
+below_more entries all n e named below is =
+    let wider = all_weaker (λ (f : Entry). f.number < n) (λ (f : Entry). f.number < n + 1) (λ f less. omega arith) entries below in
+    subst (AllByRecursion (λ (f : Entry). f.number < n + 1)) (sym is)
+    (all_more (λ (f : Entry). f.number < n + 1) entries e wider (omega arith))
 
 -- ---- a pair more
 

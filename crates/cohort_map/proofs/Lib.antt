@@ -16,3 +16,5 @@ pub mod Living
 pub mod Listing
 pub mod Due
 pub mod Copying
+pub mod Polling
+pub mod Placing

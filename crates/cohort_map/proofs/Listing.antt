@@ -1,5 +1,7 @@
 -- Lists of places, kept by each change of seats.
-use Rattle.std.proofs.Common.{if◌then◌else◌, ◌≡◌, ◌∙◌, ℕ, ◌<◌, ◌≤◌, zero, suc, Bool, true, false, ◌&&◌, ◌||◌, not, ◌==◌, Option, Some, None, is_some, List, [], ◌∷◌, ◌++◌, length, map, get_or, refl, sym, ap, subst, arith, ◌⊎◌, inl, inr}
+use Rattle.std.proofs.Common.{if◌then◌else◌, ◌≡◌, ◌∙◌, ℕ, ◌<◌, ◌≤◌, zero, suc, Bool, true, false, ◌&&◌, ◌||◌, not, ◌==◌}
+use Rattle.std.proofs.Common.{Option, Some, None, is_some, List, [], ◌∷◌, ◌++◌, length, map, get_or, refl, sym, ap}
+use Rattle.std.proofs.Common.{subst, arith, ◌⊎◌, inl, inr}
 use Rattle.std.proofs.Math.ListN.{set}
 use Rattle.std.proofs.lemmas.Bool.{cases_eq, eqb-true}
 use Rattle.std.specs.BTreeMap.{BTreeMap, get}
@@ -10,8 +12,11 @@ use Rattle.place_list.proofs.Reading.{read_filter, read_any}
 use Rattle.cohort_map.specs.declared.seat.Seat.{Seat}
 use Rattle.cohort_map.specs.declared.member.Member.{Member}
 use Rattle.cohort_map.specs.Batches.{is_member, is_job}
-use Rattle.cohort_map.specs.Seats.{is_kept, is_at, at, IsCut, IsWithin, seat_ended, seat_marked, seat_opened, seat_freed, seat_closed, seat_moved, seat_ticked, has_job_in, is_cohort_busy, is_live_in, seat_numbers}
-use Rattle.cohort_map.specs.Listed.{belongs, is_of_job, live_by, live_at, busy_by, busy_at, AreHeld, Lists, AreListed, JobsAreListed, JobsAreKnown, IsKnown, IsChanged, IsAdded, IsSettled, IsTaken}
+use Rattle.cohort_map.specs.Seats.{is_kept, is_at, at, IsCut, IsWithin, seat_ended, seat_marked, seat_opened}
+use Rattle.cohort_map.specs.Seats.{seat_freed, seat_closed, seat_moved, seat_ticked, has_job_in, is_cohort_busy}
+use Rattle.cohort_map.specs.Seats.{is_live_in, seat_numbers}
+use Rattle.cohort_map.specs.Listed.{belongs, is_of_job, live_by, live_at, busy_by, busy_at, AreHeld, Lists, AreListed}
+use Rattle.cohort_map.specs.Listed.{JobsAreListed, JobsAreKnown, IsKnown, IsChanged, IsAdded, IsSettled, IsTaken}
 
 some_same : {X : Type 0} (x y : X) → Some x ≡ Some y → x ≡ y
 some_same x y e = cc
@@ -42,7 +47,8 @@ from_map g [] i y is = absurd (cc)
 from_map g (x ∷ xs) zero y is = (x, refl, some_same (g x) y is)
 from_map g (x ∷ xs) (suc i) y is = from_map g xs i y is
 
-pub from_front : {X : Type 0} (xs ys : List X) (i : ℕ) (x : X) → slice_get xs i ≡ Some x → slice_get (xs ++ ys) i ≡ Some x
+pub from_front : {X : Type 0} (xs ys : List X) (i : ℕ) (x : X) → slice_get xs i ≡ Some x
+    → slice_get (xs ++ ys) i ≡ Some x
 from_front [] ys i x is = absurd (cc)
 from_front (y ∷ xs) ys zero x is = is
 from_front (y ∷ xs) ys (suc i) x is = from_front xs ys i x is
@@ -67,7 +73,8 @@ from_set (z ∷ xs) zero y (suc i) x is = inl is
 from_set (z ∷ xs) (suc p) y zero x is = inl is
 from_set (z ∷ xs) (suc p) y (suc i) x is = next xs z y i p x (from_set xs p y i x is)
 
-pub set_other : {X : Type 0} (xs : List X) (p : ℕ) (y : X) (i : ℕ) → (i ≡ p → ⊥) → slice_get (set xs p y) i ≡ slice_get xs i
+pub set_other : {X : Type 0} (xs : List X) (p : ℕ) (y : X) (i : ℕ) → (i ≡ p → ⊥)
+    → slice_get (set xs p y) i ≡ slice_get xs i
 set_other [] p y i apart = refl
 set_other (z ∷ xs) zero y zero apart = absurd (apart refl)
 set_other (z ∷ xs) zero y (suc i) apart = refl
@@ -89,7 +96,8 @@ item_within [] i x is = absurd (cc)
 item_within (y ∷ xs) zero x is = omega arith
 item_within (y ∷ xs) (suc i) x is = let rest = item_within xs i x is in omega arith
 
-pub all_got : {X : Type 0} (P : X → Type 0) (xs : List X) (i : ℕ) (x : X) → AllByRecursion P xs → slice_get xs i ≡ Some x → P x
+pub all_got : {X : Type 0} (P : X → Type 0) (xs : List X) (i : ℕ) (x : X) → AllByRecursion P xs
+    → slice_get xs i ≡ Some x → P x
 all_got P [] i x all is = absurd (cc)
 all_got P (y ∷ xs) zero x all is = subst P (some_same y x is) all.0
 all_got P (y ∷ xs) (suc i) x all is = all_got P xs i x all.1 is
@@ -187,14 +195,16 @@ closed_cohort_by false due s = refl
 pub closed_keeps : (job : ℕ) (due : Bool) → KeepsKept (seat_closed job due)
 closed_keeps job due s = (closed_kept_by (is_job job s.job) due s, closed_cohort_by (is_job job s.job) due s)
 
-closed_job_by : (b due : Bool) (j : ℕ) (s : Seat) → is_of_job j (if b then seat_freed due s else s) ≡ true → is_of_job j s ≡ true
+closed_job_by : (b due : Bool) (j : ℕ) (s : Seat) → is_of_job j (if b then seat_freed due s else s) ≡ true
+    → is_of_job j s ≡ true
 closed_job_by true due j s holds = absurd (cc)
 closed_job_by false due j s holds = holds
 
 pub closed_jobs : (job : ℕ) (due : Bool) → KeepsJobs (seat_closed job due)
 closed_jobs job due j s = closed_job_by (is_job job s.job) due j s
 
-free_by : (b due : Bool) (job : ℕ) (s : Seat) → is_job job s.job ≡ b → is_of_job job (if b then seat_freed due s else s) ≡ false
+free_by : (b due : Bool) (job : ℕ) (s : Seat) → is_job job s.job ≡ b
+    → is_of_job job (if b then seat_freed due s else s) ≡ false
 free_by true due job s is = refl
 free_by false due job s is = is
 
@@ -208,7 +218,8 @@ ticked_keeps all s = ((λ kept. kept), refl)
 pub ticked_jobs : (all : List Seat) → KeepsJobs (seat_ticked all)
 ticked_jobs all j s holds = holds
 
-moved_job_by : (b : Bool) (c j : ℕ) (s : Seat) → is_of_job j (if b then seat_moved c s else s) ≡ true → is_of_job j s ≡ true
+moved_job_by : (b : Bool) (c j : ℕ) (s : Seat) → is_of_job j (if b then seat_moved c s else s) ≡ true
+    → is_of_job j s ≡ true
 moved_job_by true c j s holds = holds
 moved_job_by false c j s holds = holds
 
@@ -223,7 +234,8 @@ DiffersAt place c before after =
     (i : ℕ) (t : Seat) → slice_get after i ≡ Some t → (slice_get before i ≡ Some t) ⊎ ((i ≡ place) × (t.cohort ≡ c))
 
 pub differs_by : (c : ℕ) (s t : Seat) (i place : ℕ) (before : List Seat) → s.cohort ≡ c
-    → (slice_get before i ≡ Some t) ⊎ ((i ≡ place) × (s ≡ t)) → (slice_get before i ≡ Some t) ⊎ ((i ≡ place) × (t.cohort ≡ c))
+    → (slice_get before i ≡ Some t) ⊎ ((i ≡ place) × (s ≡ t))
+    → (slice_get before i ≡ Some t) ⊎ ((i ≡ place) × (t.cohort ≡ c))
 differs_by c s t i place before of (inl is) = inl is
 differs_by c s t i place before of (inr (at, same)) = inr (at, ap (λ (u : Seat). u.cohort) (sym same) ∙ of)
 
@@ -233,13 +245,15 @@ pushed_differs seats s place end i t is =
     differs_by s.cohort s t i place seats refl
     (subst (λ (n : ℕ). (slice_get seats i ≡ Some t) ⊎ ((i ≡ n) × (s ≡ t))) (sym end) (from_push seats s i t is))
 
-pub set_differs : (seats : List Seat) (s : Seat) (place c : ℕ) → s.cohort ≡ c → DiffersAt place c seats (set seats place s)
+pub set_differs : (seats : List Seat) (s : Seat) (place c : ℕ) → s.cohort ≡ c
+    → DiffersAt place c seats (set seats place s)
 set_differs seats s place c of i t is = differs_by c s t i place seats of (from_set seats place s i t is)
 
 belongs_cohort : (c : ℕ) (s : Seat) → belongs c s ≡ true → s.cohort ≡ c
 belongs_cohort c s holds = eqb-true s.cohort c (both_true (is_kept s) (s.cohort == c) holds).1
 
-placed_here : (before after : List Seat) (lists : List Places) (place c : ℕ) (l m : Places) → DiffersAt place c before after
+placed_here : (before after : List Seat) (lists : List Places) (place c : ℕ) (l m : Places)
+    → DiffersAt place c before after
     → AreListed before lists → slice_get lists c ≡ Some l → IsAdded place l m → Lists (belongs c) after m
 placed_here before after lists place c l m differs listed is added complete i t at holds =
     elim (differs i t at) [
@@ -247,7 +261,8 @@ placed_here before after lists place c l m differs listed is added complete i t 
       | inr here ↦ subst (λ (p : ℕ). Contains m.places p) (sym here.0) (added.added complete)
     ]
 
-placed_there : (before after : List Seat) (lists : List Places) (place c k : ℕ) (l : Places) → DiffersAt place c before after
+placed_there : (before after : List Seat) (lists : List Places) (place c k : ℕ) (l : Places)
+    → DiffersAt place c before after
     → AreListed before lists → (k ≡ c → ⊥) → slice_get lists k ≡ Some l → Lists (belongs k) after l
 placed_there before after lists place c k l differs listed apart is complete i t at holds =
     elim (differs i t at) [
@@ -297,13 +312,16 @@ cut_front before after cut i s is =
 
 pub front_listed : (before after : List Seat) (lists : List Places) → IsFront before after → AreListed before lists
     → AreListed after lists
-front_listed before after lists front listed c l is complete i s at holds = listed c l is complete i s (front i s at) holds
+front_listed before after lists front listed c l is complete i s at holds = listed c l is complete i s
+    (front i s at) holds
 
-pub front_jobs : (before after : List Seat) (jobs : BTreeMap ℕ Places) → IsFront before after → JobsAreListed before jobs
+pub front_jobs : (before after : List Seat) (jobs : BTreeMap ℕ Places) → IsFront before after
+    → JobsAreListed before jobs
     → JobsAreListed after jobs
 front_jobs before after jobs front listed j l is complete i s at holds = listed j l is complete i s (front i s at) holds
 
-pub front_known : (before after : List Seat) (jobs : BTreeMap ℕ Places) → IsFront before after → JobsAreKnown before jobs
+pub front_known : (before after : List Seat) (jobs : BTreeMap ℕ Places) → IsFront before after
+    → JobsAreKnown before jobs
     → JobsAreKnown after jobs
 front_known before after jobs front known i j s at holds = known i j s (front i s at) holds
 
@@ -341,17 +359,20 @@ swept_listed seats lists swept c changed listed k m is =
     ]
 
 -- one list of many is changed
-pub one_changed : (R : Places → Places → Type 0) (c : ℕ) (before after : List Places) (l m : Places) → after ≡ set before c m
+pub one_changed : (R : Places → Places → Type 0) (c : ℕ) (before after : List Places) (l m : Places)
+    → after ≡ set before c m
     → slice_get before c ≡ Some l → R l m → length after ≡ length before → IsChanged R c before after
 one_changed R c before after l m is at holds long = record {
   long = long;
   others = λ k apart. ap (λ (ls : List Places). slice_get ls k) is ∙ set_other before c m k apart;
-  here = λ n there. let same : m ≡ n = set_here before c m n (subst (λ (ls : List Places). slice_get ls c ≡ Some n) is there) in
+  here = λ n there. let same : m ≡ n = set_here before c m n
+      (subst (λ (ls : List Places). slice_get ls c ≡ Some n) is there) in
       (l, at, subst (R l) same holds);
 }
 
 -- nothing is changed where there is no such list
-pub none_changed : (R : Places → Places → Type 0) (c : ℕ) (lists : List Places) → length lists ≤ c → IsChanged R c lists lists
+pub none_changed : (R : Places → Places → Type 0) (c : ℕ) (lists : List Places) → length lists ≤ c
+    → IsChanged R c lists lists
 none_changed R c lists past = record {
   long = refl;
   others = λ k apart. refl;
@@ -379,7 +400,8 @@ taken_lists seats jobs job unlisted l = taken_by seats jobs job unlisted l (get 
 abbrev pub SameOthers : ℕ → BTreeMap ℕ Places → BTreeMap ℕ Places → Type 0
 SameOthers job before after = (k : ℕ) → (k ≡ job → ⊥) → get nat_cmp after k ≡ get nat_cmp before k
 
-pub closed_listed : (seats : List Seat) (jobs fewer : BTreeMap ℕ Places) (job : ℕ) (due : Bool) → SameOthers job jobs fewer
+pub closed_listed : (seats : List Seat) (jobs fewer : BTreeMap ℕ Places) (job : ℕ) (due : Bool)
+    → SameOthers job jobs fewer
     → get nat_cmp fewer job ≡ None → JobsAreListed seats jobs → JobsAreListed (map (seat_closed job due) seats) fewer
 closed_listed seats jobs fewer job due others gone listed j l is =
     elim (cases_eq j job) [
@@ -388,7 +410,8 @@ closed_listed seats jobs fewer job due others gone listed j l is =
           (closed_jobs job due j) (listed j l (sym (others j apart) ∙ is) complete))
     ]
 
-pub closed_known : (seats : List Seat) (jobs fewer : BTreeMap ℕ Places) (job : ℕ) (due : Bool) → SameOthers job jobs fewer
+pub closed_known : (seats : List Seat) (jobs fewer : BTreeMap ℕ Places) (job : ℕ) (due : Bool)
+    → SameOthers job jobs fewer
     → JobsAreKnown seats jobs → JobsAreKnown (map (seat_closed job due) seats) fewer
 closed_known seats jobs fewer job due others known i j t at holds =
     let from = from_map (seat_closed job due) seats i t at in
@@ -439,7 +462,8 @@ pub opened_known : (seats : List Seat) (members : List Member) (job : ℕ) (put 
 opened_known seats members job put list before after done is known i j t at holds =
     let from = from_map (seat_opened job members) seats i t at in
     elim (cases_eq j job) [
-      | inl same ↦ ap (λ (k : ℕ). is_some (get nat_cmp after k)) same ∙ ap (λ (o : Option Places). is_some o) (done.there is)
+      | inl same ↦ ap (λ (k : ℕ). is_some (get nat_cmp after k)) same
+          ∙ ap (λ (o : Option Places). is_some o) (done.there is)
       | inr apart ↦ (let there = known i j from.0 from.1
           (opened_job_by (is_member members from.0.number && is_kept from.0) job j from.0 apart
           (subst (λ (s : Seat). is_of_job j s ≡ true) (sym from.2) holds)) in
@@ -464,7 +488,8 @@ job_belongs c s holds =
     let parts = both_true (s.cohort == c) (is_some s.job) holds in
     both (is_kept s) (s.cohort == c) (or_right s.live (is_some s.job) parts.1) parts.0
 
-known_covers : (seats : List Seat) (lists : List Places) (c : ℕ) (ps : List ℕ) → AreListed seats lists → IsKnown lists c ps
+known_covers : (seats : List Seat) (lists : List Places) (c : ℕ) (ps : List ℕ) → AreListed seats lists
+    → IsKnown lists c ps
     → Covers (belongs c) seats ps
 known_covers seats lists c ps listed known =
     subst (Covers (belongs c) seats) (sym known.complete.is) (listed c known.list known.at known.complete.complete)
@@ -496,14 +521,16 @@ busy_read c seats [] = refl
 busy_read c seats (p ∷ ps) =
     ap (λ (b : Bool). busy_at c seats p || b) (busy_read c seats ps) ∙ busy_one c (slice_get seats p) (read_at seats ps)
 
-pub live_known : (seats : List Seat) (lists : List Places) (c : ℕ) (ps : List ℕ) → AreListed seats lists → IsKnown lists c ps
+pub live_known : (seats : List Seat) (lists : List Places) (c : ℕ) (ps : List ℕ) → AreListed seats lists
+    → IsKnown lists c ps
     → filter_map (live_at c seats) ps ≡ seat_numbers (filter (is_live_in c) seats)
 live_known seats lists c ps listed known =
     live_read c seats ps
     ∙ ap seat_numbers (read_filter (is_live_in c) (belongs c) seats ps known.complete.ascend
     (known_covers seats lists c ps listed known) (live_belongs c))
 
-pub busy_known : (seats : List Seat) (lists : List Places) (c : ℕ) (ps : List ℕ) → AreListed seats lists → IsKnown lists c ps
+pub busy_known : (seats : List Seat) (lists : List Places) (c : ℕ) (ps : List ℕ) → AreListed seats lists
+    → IsKnown lists c ps
     → list_any (busy_at c seats) ps ≡ is_cohort_busy seats c
 busy_known seats lists c ps listed known =
     busy_read c seats ps
@@ -514,14 +541,16 @@ busy_known seats lists c ps listed known =
 
 closed_twice : (job : ℕ) (due : Bool) (s : Seat) → seat_closed job due (seat_closed job due s) ≡ seat_closed job due s
 closed_twice job due s =
-    ap (λ (b : Bool). if b then seat_freed due (seat_closed job due s) else seat_closed job due s) (closed_free job due s)
+    ap (λ (b : Bool). if b then seat_freed due (seat_closed job due s) else seat_closed job due s)
+    (closed_free job due s)
 
 pub close_same : (job : ℕ) (due : Bool) (seats : List Seat) (p : ℕ) (d : Seat)
     → map (seat_closed job due) (set seats p (seat_closed job due (get_or seats p d))) ≡ map (seat_closed job due) seats
 close_same job due [] p d = refl
 close_same job due (s ∷ seats) zero d =
     ap (λ (t : Seat). t ∷ map (seat_closed job due) seats) (closed_twice job due s)
-close_same job due (s ∷ seats) (suc p) d = ap (λ (ts : List Seat). seat_closed job due s ∷ ts) (close_same job due seats p d)
+close_same job due (s ∷ seats) (suc p) d = ap (λ (ts : List Seat). seat_closed job due s ∷ ts)
+    (close_same job due seats p d)
 
 in_rest : (p : ℕ) (ps : List ℕ) (q : ℕ) → (q ≡ p → ⊥) → Contains (p ∷ ps) q → Contains ps q
 in_rest p ps q apart (zero, within, is) = absurd (apart (sym is))
@@ -533,7 +562,8 @@ close_rest job due seats p s ps covers i t at holds =
     elim (cases_eq i p) [
       | inl same ↦ (let here = set_here seats p (seat_closed job due s) t
           (subst (λ (k : ℕ). slice_get (set seats p (seat_closed job due s)) k ≡ Some t) same at) in
-          let free : is_of_job job t ≡ false = subst (λ (u : Seat). is_of_job job u ≡ false) here (closed_free job due s) in
+          let free : is_of_job job t ≡ false = subst (λ (u : Seat). is_of_job job u ≡ false) here
+          (closed_free job due s) in
           absurd (cc))
       | inr apart ↦ in_rest p ps i apart
           (covers i t (sym (set_other seats p (seat_closed job due s) i apart) ∙ at) holds)
@@ -545,12 +575,14 @@ past_rest job seats p ps past covers i t at holds =
     let within = item_within seats i t at in
     in_rest p ps i (λ same. absurd (omega arith)) (covers i t at holds)
 
-free_same : (job : ℕ) (due : Bool) (s : Seat) (b : Bool) → is_of_job job s ≡ b → (b ≡ true → ⊥) → seat_closed job due s ≡ s
+free_same : (job : ℕ) (due : Bool) (s : Seat) (b : Bool) → is_of_job job s ≡ b → (b ≡ true → ⊥)
+    → seat_closed job due s ≡ s
 free_same job due s true is never = absurd (never refl)
 free_same job due s false is never = rw is refl
 
 pub all_closed : (job : ℕ) (due : Bool) (seats : List Seat)
-    → ((i : ℕ) (s : Seat) → slice_get seats i ≡ Some s → is_of_job job s ≡ true → ⊥) → seats ≡ map (seat_closed job due) seats
+    → ((i : ℕ) (s : Seat) → slice_get seats i ≡ Some s → is_of_job job s ≡ true → ⊥)
+    → seats ≡ map (seat_closed job due) seats
 all_closed job due [] free = refl
 all_closed job due (s ∷ seats) free =
     let here = free_same job due s (is_of_job job s) refl (free 0 s refl) in
@@ -600,16 +632,20 @@ held_over g seats lists jobs u keeps same held = record {
   known = λ none. known_over g seats jobs same (held.known none);
 }
 
-pub held_added : (seats : List Seat) (s : Seat) (place : ℕ) (lists more : List Places) (jobs after : BTreeMap ℕ Places) (u v : Bool)
+pub held_added : (seats : List Seat) (s : Seat) (place : ℕ) (lists more : List Places) (jobs after : BTreeMap ℕ Places)
+    (u v : Bool)
     → place ≡ length seats → IsChanged (IsAdded place) s.cohort lists more → JobsAreListed (seats ++ s ∷ []) after
-    → (v ≡ false → JobsAreKnown (seats ++ s ∷ []) after) → AreHeld seats lists jobs u → AreHeld (seats ++ s ∷ []) more after v
+    → (v ≡ false → JobsAreKnown (seats ++ s ∷ []) after) → AreHeld seats lists jobs u
+    → AreHeld (seats ++ s ∷ []) more after v
 held_added seats s place lists more jobs after u v end changed listed known held = record {
-  cohorts = placed_listed seats (seats ++ s ∷ []) lists more place s.cohort (pushed_differs seats s place end) held.cohorts changed;
+  cohorts = placed_listed seats (seats ++ s ∷ []) lists more place s.cohort
+      (pushed_differs seats s place end) held.cohorts changed;
   jobs_listed = listed;
   known = known;
 }
 
-pub held_opened : (seats : List Seat) (members : List Member) (job : ℕ) (put : Bool) (list : Places) (lists : List Places)
+pub held_opened : (seats : List Seat) (members : List Member) (job : ℕ) (put : Bool) (list : Places)
+    (lists : List Places)
     (before after : BTreeMap ℕ Places) (u : Bool) → IsPut job put list before after
     → Lists (is_of_job job) (map (seat_opened job members) seats) list → AreHeld seats lists before u
     → AreHeld (map (seat_opened job members) seats) lists after (u || not put)
@@ -620,7 +656,8 @@ held_opened seats members job put list lists before after u done holds held = re
       opened_known seats members job put list before after done parts.1 (held.known parts.0);
 }
 
-pub held_closed : (seats : List Seat) (job : ℕ) (due : Bool) (lists : List Places) (jobs fewer : BTreeMap ℕ Places) (u : Bool)
+pub held_closed : (seats : List Seat) (job : ℕ) (due : Bool) (lists : List Places) (jobs fewer : BTreeMap ℕ Places)
+    (u : Bool)
     → SameOthers job jobs fewer → get nat_cmp fewer job ≡ None → AreHeld seats lists jobs u
     → AreHeld (map (seat_closed job due) seats) lists fewer u
 held_closed seats job due lists jobs fewer u others gone held = record {
@@ -646,7 +683,8 @@ held_swept seats c lists swept jobs u changed held = record {
   known = held.known;
 }
 
-pub held_front : (before after : List Seat) (lists : List Places) (jobs : BTreeMap ℕ Places) (u : Bool) → IsFront before after
+pub held_front : (before after : List Seat) (lists : List Places) (jobs : BTreeMap ℕ Places) (u : Bool)
+    → IsFront before after
     → AreHeld before lists jobs u → AreHeld after lists jobs u
 held_front before after lists jobs u front held = record {
   cohorts = front_listed before after lists front held.cohorts;
@@ -655,7 +693,8 @@ held_front before after lists jobs u front held = record {
 }
 
 pub held_more : (seats : List Seat) (lists : List Places) (l : Places) (jobs : BTreeMap ℕ Places) (u : Bool)
-    → AllByRecursion (IsWithin (length lists)) seats → AreHeld seats lists jobs u → AreHeld seats (lists ++ l ∷ []) jobs u
+    → AllByRecursion (IsWithin (length lists)) seats → AreHeld seats lists jobs u
+    → AreHeld seats (lists ++ l ∷ []) jobs u
 held_more seats lists l jobs u within held = record {
   cohorts = more_lists seats lists l within held.cohorts;
   jobs_listed = held.jobs_listed;

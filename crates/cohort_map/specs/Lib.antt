@@ -7,3 +7,4 @@ pub mod Seats
 pub mod Choice
 pub mod Listed
 pub mod Copies
+pub mod Polled

@@ -1,10 +1,12 @@
-ghost use Rattle.std.specs.Prelude.{◌≡◌, ◌<◌, ◌≤◌, [], length, OnOk};
+ghost use Rattle.std.specs.Prelude.{◌≡◌, ◌<◌, ◌≤◌, [], length, IfOk, OnOk};
 ghost use Rattle.std.specs.List.{AllByRecursion};
 ghost use Rattle.cohort_map.specs.Seats.{Rise, IsSound};
 ghost use Rattle.cohort_map.specs.Copies.{IsCopied, Goes, Copies};
+ghost use Rattle.cohort_map.specs.Polled.{ArePolled};
 
 use crate::keys::Keys;
 use crate::order::copy_key;
+use crate::polled::{Pollers, list_all};
 use crate::seat::{Seat, is_kept};
 use crate::seats::Seats;
 use scalar_val::NoMemory;
@@ -63,7 +65,7 @@ fn copy_kept(
 }
 
 /// Copies the seats that aren't empty, and the keys of their cohorts.
-pub(crate) fn copy_all(
+fn copy_all(
     alloc: Global,
     from: &Keys,
     all: &[Seat],
@@ -80,4 +82,23 @@ pub(crate) fn copy_all(
         copy_kept(alloc, from, seat, keys, seats)?;
     }
     Ok(())
+}
+
+/// The same, and the lists of their pollers.
+pub(crate) fn copy_polled(
+    alloc: Global,
+    from: &Keys,
+    all: &[Seat],
+    keys: &mut Keys,
+    seats: &mut Seats,
+) -> Result<Pollers, NoMemory>
+    requires rise { Rise all.now }
+    requires sound { AllByRecursion (IsSound (length from.now)) all.now }
+    requires no_keys { keys.old ≡ [] }
+    requires no_seats { seats.old.seats ≡ [] }
+    ensures copies { OnOk result (Copies from.now all.now keys.new seats.new) }
+    ensures polled { IfOk result (λ pollers. ArePolled keys.new seats.new.seats pollers) }
+{
+    copy_all(alloc, from, all, keys, seats)?;
+    list_all(alloc, keys, seats.as_slice())
 }

@@ -1,8 +1,8 @@
 ghost use Rattle.std.specs.Prelude.{◌≡◌, ◌<◌, ◌≤◌, ◌+◌, ℕ, [], ◌∷◌, ◌++◌, Some, length, slice_get, IfOk, IfSome, IfNone, OnOk, OnErr};
 ghost use Rattle.cohort_map.specs.declared.key.CohortKey.{CohortKey};
 
-use crate::key::CohortKey;
-use crate::order::copy_key;
+use crate::key::{CohortKey, PollerKey};
+use crate::order::{copy_key, is_same_poller};
 use scalar_val::NoMemory;
 use std::alloc::Global;
 use std::collections::BTreeMap;
@@ -29,6 +29,7 @@ impl Model for Keys {
 
 impl Keys {
     ghost use Rattle.cohort_map.specs.Indexed.{AreApart};
+    ghost use Rattle.cohort_map.specs.Polled.{is_polled};
 
     pub(crate) fn new(alloc: Global) -> Keys
         ensures { result ≡ [] }
@@ -57,6 +58,16 @@ impl Keys {
         ensures { slice_get self.now place ≡ Some result.now }
     {
         &self.keys[place]
+    }
+
+    /// Whether a cohort has a key, which is of this poller.
+    pub(crate) fn is_polled_by(&self, place: usize, poller: &PollerKey) -> bool
+        ensures { result ≡ is_polled poller.now (slice_get self.now place) }
+    {
+        match self.keys.get(place) {
+            Some(key) => is_same_poller(poller, &key.poller),
+            None => false,
+        }
     }
 
     /// The place of a key, which is added where it isn't there.

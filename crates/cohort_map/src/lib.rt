@@ -2,6 +2,7 @@
 #![tactic(auto)]
 
 mod choice;
+mod chosen_set;
 mod compact;
 mod gathered;
 mod key;
@@ -10,6 +11,7 @@ mod listed;
 mod map;
 mod member;
 mod order;
+mod polled;
 mod seat;
 mod seats;
 #[cfg(test)]

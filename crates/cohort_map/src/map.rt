@@ -7,11 +7,12 @@ ghost use Rattle.cohort_map.specs.Keys.{with_cursor};
 ghost use Rattle.cohort_map.specs.Seats.{IsReadyWithin, IsReadyTo, TellsReady, ready_of};
 
 use crate::choice::batch_of;
-use crate::compact::{copy_all, count_kept};
+use crate::compact::{copy_polled, count_kept};
 use crate::key::{CohortKey, PollerKey};
 use crate::keys::Keys;
 use crate::member::{MemberList, SubList};
 use crate::order::copy_key;
+use crate::polled::{Pollers, list_place, make_list, sweep};
 use crate::seat::{ReadySeat, Seat, cohort_of, count_due, count_live, has_seat, is_live};
 use crate::seats::Seats;
 use plan_core::Binding;
@@ -82,6 +83,7 @@ fn ready_cohort_at(keys: &Keys, ready: &[ReadySeat], place: usize, sub: u64, cur
 pub struct CohortMap {
     keys: Keys,
     seats: Seats,
+    pollers: Pollers,
     ready: Vec<ReadySeat>,
     /// How many moves were made since the list of ready ones was empty: the place of the next one, where they are made in
     /// the order in which they were made ready.
@@ -100,7 +102,10 @@ impl Model for CohortMap {
 
     ghost view = { λ m. held m.keys m.seats.seats m.ready.items };
 
-    ghost invariant = { λ m. IsSeated m.keys m.seats.seats m.ready.items × (length m.keys ≤ m.seats.cohorts) };
+    ghost use Rattle.cohort_map.specs.Polled.{ArePolled};
+
+    ghost invariant = { λ m. IsSeated m.keys m.seats.seats m.ready.items × (length m.keys ≤ m.seats.cohorts)
+        × ArePolled m.keys m.seats.seats m.pollers };
 }
 
 impl CohortMap {
@@ -115,6 +120,7 @@ impl CohortMap {
         CohortMap {
             keys: Keys::new(alloc),
             seats: Seats::new(alloc),
+            pollers: Pollers::new(alloc),
             ready: Vec::new(alloc),
             moved: 0,
             until: LEAST_CALLS,
@@ -155,8 +161,10 @@ impl CohortMap {
         ensures ready { self.new.ready ≡ self.old.ready }
     {
         self.seats.make_cohort(self.keys.len())?;
+        make_list(&mut self.pollers, alloc, &poller)?;
         let cohort = self.keys.place_of(alloc, CohortKey { poller, binding })?;
         self.seats.drop_empty_end();
+        let place = self.seats.as_slice().len();
         self.seats.push(Seat {
             number: sub,
             cohort,
@@ -164,6 +172,7 @@ impl CohortMap {
             due: false,
             job: None,
         })?;
+        list_place(&mut self.pollers, &self.keys.get(cohort).poller, place);
         Ok(())
     }
 
@@ -185,16 +194,17 @@ impl CohortMap {
         }
         let mut keys = Keys::new(alloc);
         let mut seats = Seats::new(alloc);
-        match copy_all(
+        match copy_polled(
             alloc,
             &self.keys,
             self.seats.as_slice(),
             &mut keys,
             &mut seats,
         ) {
-            Ok(()) => {
+            Ok(pollers) => {
                 self.keys = keys;
                 self.seats = seats;
+                self.pollers = pollers;
             }
             Err(_refused) => {}
         }
@@ -219,8 +229,32 @@ impl CohortMap {
         ensures ready { self.new.ready ≡ self.old.ready }
         ensures answer { result ≡ has sub self.old.entries }
     {
+        let cohort = cohort_of(self.seats.as_slice(), sub);
+        let ended = self.end(sub);
+        if let Some(cohort) = cohort {
+            self.note_stale(cohort);
+        }
+        ended
+    }
+
+    /// What `leave` does to the entries.
+    fn end(&mut self, sub: u64) -> bool
+        ensures entries { self.new.entries ≡ left sub self.old.entries }
+        ensures ready { self.new.ready ≡ self.old.ready }
+        ensures answer { result ≡ has sub self.old.entries }
+    {
         self.until = self.until.saturating_sub(1);
         self.seats.end(sub)
+    }
+
+    /// A seat of a cohort became empty, so that its place in the list of its poller is stale.
+    fn note_stale(&mut self, cohort: usize)
+        ensures { self.new ≡ self.old }
+    {
+        if cohort < self.keys.len() {
+            let poller = &self.keys.get(cohort).poller;
+            sweep(&mut self.pollers, &self.keys, poller, self.seats.as_slice());
+        }
     }
 
     /// Whether a number is in the map. It takes no memory.
@@ -311,10 +345,11 @@ impl CohortMap {
         ensures { IfOk result (λ members. members ≡ batch_of limit self.now.entries) }
     {
         self.keys.apart();
-        batch_of(alloc, &self.keys, &self.seats, limit)
+        batch_of(alloc, &self.keys, &self.seats, &self.pollers, limit)
     }
 
-    /// Marks the members of a job with it; they are no longer due. It takes no memory.
+    /// Marks the members of a job with it; they are no longer due. It can't be refused memory: it lists the members where
+    /// there is some.
     pub fn open_job(&mut self, job: u64, members: &MemberList)
         ensures entries { self.new.entries ≡ opened job members.now self.old.entries }
         ensures ready { self.new.ready ≡ self.old.ready }
@@ -364,7 +399,8 @@ impl CohortMap {
         Ok(())
     }
 
-    /// Moves a stream to a cursor; all other entries stay. It needs a ready pair whose number is in the map, and takes no memory.
+    /// Moves a stream to a cursor; all other entries stay. It needs a ready pair whose number is in the map. It can't be
+    /// refused memory: it lists the stream in its new cohort where there is some.
     pub fn rehome(&mut self, sub: u64, cursor: &Val)
         requires pair { Contains self.old.ready (record { number = sub; cursor = cursor.now }) }
         requires there { IsTrue (has sub self.old.entries) }

@@ -5,7 +5,7 @@ ghost use Rattle.std.specs.Cmp.{eq_by_cmp_equiv, partial_order_from_agreeing_tot
 ghost use Rattle.std.specs.Cmp.Lexicographic.{slice_cmp};
 ghost use Rattle.scalar_val.specs.ValOrder.{val_cmp};
 ghost use Rattle.cohort_map.specs.Keys.{word_rank, poller_cmp, slot_cmp, binding_cmp, key_cmp, same_poller, same_binding};
-ghost use Rattle.cohort_map.specs.KeyOrder.{key_cmp-total};
+ghost use Rattle.cohort_map.specs.KeyOrder.{poller_cmp-total, key_cmp-total};
 
 use crate::key::{CohortKey, PollerKey};
 use plan_core::{Binding, Slot, copy_binding};
@@ -149,6 +149,47 @@ impl Ord for CohortKey {
 
     fn cmp(&self, other: &CohortKey) -> Ordering {
         compare(self, other)
+    }
+}
+
+impl PartialEq for PollerKey {
+    ghost eq = { eq_by_cmp poller_cmp };
+
+    ghost laws = { Cmp.partial_equiv_from_equiv (eq_by_cmp_equiv poller_cmp-total) };
+
+    fn eq(&self, other: &PollerKey) -> bool {
+        match compare_pollers(self, other) {
+            Ordering::Equal => true,
+            _ => false,
+        }
+    }
+}
+
+impl Eq for PollerKey {
+    ghost laws = { eq_by_cmp_equiv poller_cmp-total };
+}
+
+impl PartialOrd for PollerKey {
+    ghost partial_cmp = { λ x y. Some (poller_cmp x y) };
+
+    ghost laws = { partial_order_from_agreeing_total poller_cmp poller_cmp-total (λ x y. refl) (λ x y. refl) };
+
+    fn partial_cmp(&self, other: &PollerKey) -> Option<Ordering> {
+        Some(compare_pollers(self, other))
+    }
+}
+
+impl Ord for PollerKey {
+    ghost cmp = { poller_cmp };
+
+    ghost total = { poller_cmp-total };
+
+    ghost matches_partial_cmp = { λ x y. refl };
+
+    ghost matches_eq = { λ x y. refl };
+
+    fn cmp(&self, other: &PollerKey) -> Ordering {
+        compare_pollers(self, other)
     }
 }
 

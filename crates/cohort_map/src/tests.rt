@@ -1,6 +1,6 @@
 ghost use Rattle.std.specs.Prelude.{◌≤◌, ◌≡◌};
 
-use crate::{CohortMap, MemberList, PollerKey};
+use crate::{CohortMap, Member, MemberList, PollerKey};
 use plan_core::{Binding, Slot, SlotList, ValList};
 use scalar_val::{NoMemory, Str, Val, Word};
 use std::alloc::Global;
@@ -40,6 +40,17 @@ fn filled(alloc: Global, values: &[(&str, i32, i32)]) -> Result<CohortMap, NoMem
         let binding = binding(alloc, value.1, value.2)?;
         map.join(alloc, next, poller, binding)?;
         next += 1;
+    }
+    Ok(map)
+}
+
+/// A map of so many subscriptions of one poller, each with a variable of its own.
+fn numbered(alloc: Global, count: u32) -> Result<CohortMap, NoMemory> {
+    let mut map = CohortMap::new(alloc);
+    for variable in 0..count {
+        let poller = poller(alloc, "user")?;
+        let binding = binding(alloc, (variable % 1000) as i32, 0)?;
+        map.join(alloc, variable as u64 + 1, poller, binding)?;
     }
     Ok(map)
 }
@@ -88,6 +99,31 @@ fn subscriptions_beyond_a_batch_come_with_the_next_one(rt: HostRuntime) -> Resul
 }
 
 #[test]
+fn a_hundred_and_one_cohorts_are_two_batches(rt: HostRuntime) -> Result<(), Fail> {
+    let alloc = rt.alloc();
+    let mut map = numbered(alloc, 101)?;
+    assert!(rt; map.tick() == 101);
+    let members = map.batch(alloc, 100)?;
+    assert!(rt; members.len() == 100);
+    assert!(rt;
+        members
+            .as_slice()
+            .first()
+            .is_some_and(|first| *first == Member { sub: 1, id: 1 })
+    );
+    assert!(rt;
+        members
+            .as_slice()
+            .last()
+            .is_some_and(|last| *last == Member { sub: 100, id: 100 })
+    );
+    map.open_job(1, &members);
+    assert_eq!(rt; take(alloc, &mut map, 2, 100)?.as_str(), "101:1 ");
+    assert_eq!(rt; take(alloc, &mut map, 3, 100)?.as_str(), "");
+    Ok(())
+}
+
+#[test]
 fn equal_variables_share_a_cohort(rt: HostRuntime) -> Result<(), Fail> {
     let alloc = rt.alloc();
     let mut map = filled(
@@ -112,6 +148,33 @@ fn another_role_has_a_batch_of_its_own(rt: HostRuntime) -> Result<(), Fail> {
     assert_eq!(rt; take(alloc, &mut map, 1, 100)?.as_str(), "1:1 3:2 ");
     assert_eq!(rt; take(alloc, &mut map, 2, 100)?.as_str(), "2:1 ");
     assert_eq!(rt; take(alloc, &mut map, 3, 100)?.as_str(), "");
+    Ok(())
+}
+
+#[test]
+fn batches_of_two_pollers_pass_over_each_other(rt: HostRuntime) -> Result<(), Fail> {
+    let alloc = rt.alloc();
+    let mut map = filled(
+        alloc,
+        [
+            ("user", 1, 0),
+            ("admin", 1, 0),
+            ("user", 2, 0),
+            ("admin", 2, 0),
+            ("user", 1, 0),
+            ("admin", 2, 0),
+        ]
+        .as_slice(),
+    )?;
+    assert!(rt; map.leave(1));
+    assert!(rt; map.tick() == 5);
+    assert_eq!(rt; take(alloc, &mut map, 1, 1)?.as_str(), "2:1 ");
+    assert_eq!(rt; take(alloc, &mut map, 2, 1)?.as_str(), "3:1 ");
+    assert_eq!(rt; take(alloc, &mut map, 3, 1)?.as_str(), "4:1 6:1 ");
+    map.close_job(1, true);
+    assert_eq!(rt; take(alloc, &mut map, 4, 2)?.as_str(), "2:1 ");
+    assert_eq!(rt; take(alloc, &mut map, 5, 2)?.as_str(), "5:1 ");
+    assert_eq!(rt; take(alloc, &mut map, 6, 2)?.as_str(), "");
     Ok(())
 }
 

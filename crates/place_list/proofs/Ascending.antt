@@ -1,5 +1,5 @@
 -- Ascending lists after an insert and after a sweep.
-use Rattle.std.proofs.Common.{◌≡◌, ℕ, ◌<◌, ◌≤◌, zero, suc, Bool, true, false, List, [], ◌∷◌, ◌++◌, length, get_or, take, drop, sym, subst, arith, ◌⊎◌, inl, inr, Err}
+use Rattle.std.proofs.Common.{◌≡◌, ℕ, ◌<◌, ◌≤◌, zero, suc, Bool, true, false, List, [], ◌∷◌, ◌++◌, length, get_or, take, drop, sym, subst, arith, ◌⊎◌, inl, inr, Ok, Err}
 use Rattle.std.specs.List.{AllByRecursion, Contains, insert, items_where_true}
 use Rattle.std.specs.List.Sorted.{IsBinarySearchResult}
 use Rattle.std.specs.Ordering.{nat_cmp}
@@ -94,3 +94,47 @@ swept [] ps up = tt
 swept (b ∷ bs) [] up = tt
 swept (true ∷ bs) (p ∷ ps) up = (all_kept (λ q. p < q) bs ps up.0, swept bs ps up.1)
 swept (false ∷ bs) (p ∷ ps) up = swept bs ps up.1
+
+-- ---- the places from one on
+
+rises : (ps : List ℕ) → Ascends ps → (i j : ℕ) → i < j → j < length ps → get_or ps i 0 < get_or ps j 0
+rises [] up i j order within = absurd (omega arith)
+rises (p ∷ ps) up i zero order within = absurd (omega arith)
+rises (p ∷ ps) up zero (suc j) order within = above_at p ps j 0 up.0 (omega arith)
+rises (p ∷ ps) up (suc i) (suc j) order within = rises ps up.1 i j (omega arith) (omega arith)
+
+pub ascends_drop : (ps : List ℕ) (at : ℕ) → Ascends ps → Ascends (drop at ps)
+ascends_drop ps zero up = up
+ascends_drop [] (suc at) up = tt
+ascends_drop (p ∷ ps) (suc at) up = ascends_drop ps at up.1
+
+kept_drop : (ps : List ℕ) (at p q : ℕ) → ((k : ℕ) → k < at → get_or ps k 0 < p) → p ≤ q → Contains ps q
+    → Contains (drop at ps) q
+kept_drop ps zero p q below past has = has
+kept_drop [] (suc at) p q below past has = has
+kept_drop (r ∷ ps) (suc at) p q below past has =
+    elim (in_rest r q ps has) [
+      | inl rest ↦ kept_drop ps at p q (λ k less. below (suc k) (omega arith)) past rest
+      | inr same ↦ (let less : r < p = below 0 (omega arith) in absurd (omega arith))
+    ]
+
+abbrev pub KeepsFrom : List ℕ → ℕ → List ℕ → Type 0
+KeepsFrom ps p rest = (q : ℕ) → Contains ps q → p ≤ q → Contains rest q
+
+-- where a search found the place
+pub since_found : (ps slice : List ℕ) (p at : ℕ) → slice ≡ ps → Ascends ps
+    → IsBinarySearchResult (λ y. nat_cmp y p) slice (Ok at) → KeepsFrom ps p (drop at ps)
+since_found ps slice p at same up position q has past =
+    let found = searched ps p (Ok at)
+    (subst (λ (qs : List ℕ). IsBinarySearchResult (λ y. nat_cmp y p) qs (Ok at)) same position) (never_falls ps up) in
+    kept_drop ps at p q
+    (λ k less. let below : get_or ps k 0 < get_or ps at 0 = rises ps up k at less found.0 in let is = found.1 in omega arith)
+    past has
+
+-- where it found none
+pub since_none : (ps slice : List ℕ) (p at : ℕ) → slice ≡ ps → Ascends ps
+    → IsBinarySearchResult (λ y. nat_cmp y p) slice (Err at) → KeepsFrom ps p (drop at ps)
+since_none ps slice p at same up position q has past =
+    let found = searched ps p (Err at)
+    (subst (λ (qs : List ℕ). IsBinarySearchResult (λ y. nat_cmp y p) qs (Err at)) same position) (never_falls ps up) in
+    kept_drop ps at p q found.1 past has

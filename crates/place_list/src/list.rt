@@ -1,4 +1,4 @@
-ghost use Rattle.std.specs.Prelude.{◌≡◌, ℕ, true, false, [], ◌⊎◌, Contains};
+ghost use Rattle.std.specs.Prelude.{◌≡◌, ◌≤◌, ℕ, true, false, [], ◌⊎◌, Contains};
 ghost use Rattle.std.specs.Fn.{CalledAt};
 ghost use Rattle.std.specs.List.Retain.{IsFiltered};
 
@@ -67,6 +67,18 @@ impl PlaceList {
         ensures ascend { Ascends self.now.places }
     {
         self.places.as_slice()
+    }
+
+    /// The places that aren't before one, in ascending order.
+    pub fn since(&self, place: usize) -> &[usize]
+        ensures ascend { Ascends result.now }
+        ensures keeps { (p : ℕ) → Contains self.now.places p → place ≤ p → Contains result.now p }
+    {
+        let at = match self.places.binary_search(&place) {
+            Ok(at) => at,
+            Err(at) => at,
+        };
+        &self.places[at..]
     }
 
     /// Adds a place, if it isn't there. For want of memory it is missed, and the list isn't complete from then on.

@@ -9,6 +9,9 @@ fn places_stand_in_order_and_once(rt: HostRuntime) {
     list.add(9);
     assert!(rt; list.is_complete());
     assert_eq!(rt; list.as_slice(), [3, 7, 9].as_slice());
+    assert_eq!(rt; list.since(7), [7, 9].as_slice());
+    assert_eq!(rt; list.since(4), [7, 9].as_slice());
+    assert!(rt; list.since(10).is_empty());
 }
 
 #[test]

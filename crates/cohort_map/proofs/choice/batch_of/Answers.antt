@@ -8,8 +8,8 @@ use Rattle.cohort_map.proofs.choice.batch_of.Goals as goal
 pub returns-in_ok-cohorts-in-Some : goal.returns-in_ok-cohorts-in-Some
 returns-in_ok-cohorts-in-Some c =
     let seats = c.args.seats.now.seats in
-    let chosen = rw c.as_slice.ensures at c.in_ok-cohorts-in-Some.ensures.chosen in
+    let chosen = rw c.as_slice-all.ensures at c.in_ok-cohorts-in-Some.ensures.chosen in
     subst (λ (ms : List Member). IfOk c.members_in.result (λ members. members ≡ ms))
     (ap (λ (cs : List ℕ). filter_map (member_seen cs) seats) chosen
     ∙ batch_is c.args.keys.now c.args.limit seats (find seat_due seats) c.in-Some.ensures.some.seat c.in-Some.ensures.some.is)
-    (rw (← c.deref.ensures.value) c.members_in.ensures)
+    c.members_in.ensures

@@ -1,19 +1,15 @@
-use Rattle.std.proofs.Common.{◌∙◌, true, false, None, [], length, drop, get_or, arith}
-use Rattle.cohort_map.specs.declared.seat.Seat.{Seat}
+use Rattle.std.proofs.Common.{◌∙◌, [], sym, subst, length, drop, get_or, List, ℕ, ◌≤◌, arith}
 use Rattle.cohort_map.specs.Seats.{IsWithin}
+use Rattle.cohort_map.specs.Listed.{no_seat}
 use Rattle.cohort_map.specs.Choice.{chosen_cohorts}
 use Rattle.cohort_map.proofs.Due.{chosen_full}
-use Rattle.cohort_map.proofs.Choosing.{all_rest, one_more, chosen_more, has_room, taken_by}
+use Rattle.cohort_map.proofs.Choosing.{all_rest, chosen_more, with_bound}
 use Rattle.cohort_map.proofs.choice.cohorts_of.Goals as goal
-use Rattle.cohort_map.proofs.choice.cohorts_of.Goals.{then-is_next+in_ok-push, else-is_next}
-
-abbrev none : Seat
-none = record { number = 0; cohort = 0; live = false; due = false; job = None }
 
 pub returns-then-len-limit-clause-chosen : goal.returns-then-len-limit-clause-chosen
 returns-then-len-limit-clause-chosen c =
-    chosen_full c.args.keys.now c.args.limit c.args.first c.loop-seat.cohorts.items (drop c.loop-seat.seat-index c.args.seats.now)
-    (omega (arith, c.if-len-limit.true, c.len.ensures, c.loop-seat.cohorts.ok.0))
+    chosen_full c.args.keys.now c.args.limit c.args.first c.loop-seat.cohorts (drop c.loop-seat.seat-index c.args.seats.now)
+    (omega (arith, c.if-len-limit.true, c.len.ensures))
     ∙ c.loop-seat.invariant.chosen
 
 pub loop-seat-preserved : goal.loop-seat-preserved
@@ -23,24 +19,13 @@ loop-seat-preserved c =
     let first = c.args.first in
     let seats = c.args.seats.now in
     let i = c.loop-seat.seat-index in
-    let cs = c.loop-seat.cohorts.items in
-    let ds = c.if-is_next.cohorts.items in
-    let s = get_or c.args.seats.now c.loop-seat.seat-index none in
-    let all = chosen_cohorts c.args.keys.now c.args.limit c.args.first [] c.args.seats.now in
-    let within = all_rest (IsWithin (length c.args.keys.now)) c.args.seats.now c.loop-seat.seat-index none
-    c.loop-seat-test.true c.loop-seat.invariant.within in
-    elim c.if-is_next.branch [
-      | then-is_next+in_ok-push w ↦ record {
-        bound = rw (w.cohorts-is, w.in_ok-push.ensures.items)
-            (one_more cs s.cohort limit (has_room keys limit first cs s (cc)));
-        within = within;
-        chosen = chosen_more keys limit first cs ds seats i none all c.loop-seat-test.true
-            (cc (taken_by keys limit first cs s true (cc), w.in_ok-push.ensures.items)) c.loop-seat.invariant.chosen;
-      }
-      | else-is_next w ↦ record {
-        bound = rw w.cohorts-is c.loop-seat.invariant.bound;
-        within = within;
-        chosen = chosen_more keys limit first cs ds seats i none all c.loop-seat-test.true
-            (cc (taken_by keys limit first cs s false (cc))) c.loop-seat.invariant.chosen;
-      }
-    ]
+    let cs = c.loop-seat.cohorts in
+    let s = get_or c.args.seats.now c.loop-seat.seat-index no_seat in
+    record {
+      bound = subst (λ (ds : List ℕ). length ds ≤ limit) (sym c.in_ok-choose.ensures)
+          (with_bound keys limit first cs s c.loop-seat.invariant.bound);
+      within = all_rest (IsWithin (length keys)) seats i no_seat c.loop-seat-test.true c.loop-seat.invariant.within;
+      chosen = chosen_more keys limit first cs c.choose.new.cohorts seats i no_seat
+          (chosen_cohorts keys limit first [] seats) c.loop-seat-test.true (sym c.in_ok-choose.ensures)
+          c.loop-seat.invariant.chosen;
+    }

@@ -8,6 +8,7 @@ use Rattle.cohort_map.proofs.Views.{within_of}
 use Rattle.cohort_map.proofs.Finding.{cohort_within, entry_none}
 use Rattle.cohort_map.proofs.Seated.{more_seen, more_seated}
 use Rattle.cohort_map.proofs.Entering.{on_err, kept_ready, none_any, paired_seated, paired_seen}
+use Rattle.cohort_map.proofs.Polling.{polled_more}
 use Rattle.cohort_map.proofs.map.CohortMap.prepare.Goals as goal
 
 pub make_cohort-requires-clause-count : goal.make_cohort-requires-clause-count
@@ -43,6 +44,8 @@ invariant_of-self-in_err-push c =
     c.in_ok-cohort.ensures.grows c.self.invariant.0 in (
       rw (c.make_cohort.ensures.seats, c.in_err-push.ensures.items) kept,
       omega (arith, c.len.ensures, c.in_ok-make_cohort.ensures.ok, c.in_ok-cohort.ensures.most),
+      rw c.make_cohort.ensures.seats (polled_more c.self.inside.keys more seats c.self.inside.pollers
+          c.in_ok-cohort.ensures.stay c.self.invariant.0.sound c.self.invariant.2),
     )
 
 pub returns-in_err-push-clause-entries : goal.returns-in_err-push-clause-entries
@@ -71,6 +74,8 @@ invariant_of-self-2 c =
     c.in_ok-cohort.ensures.grows of c.get-before.ensures at c.self.invariant.0 in (
       rw (c.make_cohort.ensures.seats, c.in_ok-push.ensures.items) seated,
       omega (arith, c.len.ensures, c.in_ok-make_cohort.ensures.ok, c.in_ok-cohort.ensures.most),
+      rw c.make_cohort.ensures.seats (polled_more c.self.inside.keys more seats c.self.inside.pollers
+          c.in_ok-cohort.ensures.stay c.self.invariant.0.sound c.self.invariant.2),
     )
 
 pub returns-clause-entries : goal.returns-clause-entries
