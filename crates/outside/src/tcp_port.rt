@@ -3,7 +3,26 @@ ghost use Rattle.std.specs.Prelude.{◌≡◌, None};
 use crate::listener::{Accepted, Listener};
 use crate::opening::{Parts, Splits};
 use crate::standard::{StdSink, StdSource};
+use std::io::ErrorKind;
 use std::net::{IpAddr, Net, SocketAddr, TcpListener, TcpStream};
+
+/// How many connections in a row may break off before they are accepted, until the port has failed.
+const PASSED_OVER: u32 = 1_000_000;
+
+/// Whether an error of `accept` is of the one connection that would have come, or of the call alone, so that the port
+/// still listens. Linux gives the errors of a connection that waits to its `accept`.
+fn is_of_one_connection(kind: ErrorKind) -> bool {
+    matches!(
+        kind,
+        ErrorKind::Interrupted
+            | ErrorKind::ConnectionAborted
+            | ErrorKind::ConnectionReset
+            | ErrorKind::TimedOut
+            | ErrorKind::HostUnreachable
+            | ErrorKind::NetworkDown
+            | ErrorKind::NetworkUnreachable
+    )
+}
 
 /// A TCP port of this machine, whose connections are TCP streams. It tells neither its connections nor its port, and
 /// never ends. What the system does at its calls is trusted and not proved.
@@ -67,10 +86,14 @@ impl<R: Net<Listener = TcpListener, Stream = TcpStream> + Drop> Listener for Tcp
     }
 
     fn accept(&mut self) -> Accepted<TcpStream> {
-        if let Some(listener) = &self.listener
-            && let Ok((stream, _)) = listener.accept()
-        {
-            return Accepted::Conn(stream);
+        if let Some(listener) = &self.listener {
+            for _ in 0..PASSED_OVER {
+                match listener.accept() {
+                    Ok((stream, _)) => return Accepted::Conn(stream),
+                    Err(error) if is_of_one_connection(error.kind()) => {}
+                    Err(_) => break,
+                }
+            }
         }
         self.faults = self.faults.saturating_add(1);
         Accepted::Failed
