@@ -81,8 +81,8 @@ fn transcript<L: Ledger>(
     match run_script(alloc, &mut source, &mut sink, steps) {
         RunEnd::Done => Ok(sink),
         RunEnd::ScriptFault { .. } => Ok(sink),
-        RunEnd::SourceFault => Err(NoMemory),
-        RunEnd::SinkFault => Err(NoMemory),
+        RunEnd::SourceFault => unreachable!(),
+        RunEnd::SinkFault => unreachable!(),
         RunEnd::NoMemory => Err(NoMemory),
     }
 }
