@@ -10,3 +10,4 @@ pub mod Calls
 pub mod Publishing
 pub mod Speakers
 pub mod Takings
+pub mod Readings

@@ -1,7 +1,8 @@
 -- The publication of a job's answers: what it needs, and that the hub's parts do it.
-use Rattle.std.proofs.Common.{◌≡◌, ◌∙◌, sym, ap, refl, subst, ℕ, Bool, true, false, nat_lt, if◌then◌else◌, Some, None, Option, List, [], ◌∷◌, ◌++◌, slice_get, ◌-◌}
+use Rattle.std.proofs.Common.{◌≡◌, ◌∙◌, sym, ap, refl, subst, ℕ, Bool, true, false, nat_lt, if◌then◌else◌, Some, None}
+use Rattle.std.proofs.Common.{Option, List, [], ◌∷◌, ◌++◌, slice_get, ◌-◌}
 use Rattle.std.specs.Option.{IfSome, is_some}
-use Rattle.std.specs.List.{AllByRecursion, filter_map, cons_option}
+use Rattle.std.specs.List.{filter_map, cons_option}
 use Rattle.plan_model.specs.Outcomes.{Outcome}
 use Rattle.query_model.specs.declared.kind.SubKind.{SubKind}
 use Rattle.query_model.specs.declared.kind.SubKind.TheVariants.{Live, Once, Stream}
@@ -129,7 +130,8 @@ pub record AreParts (k : Kept) (number : ℕ) (ts : List Telling) (connections :
   pub moves : moved ≡ rekeyed (filter_map move_of ts) k.entries
   pub told_entries : List Entry
   pub told_held : List Held
-  pub tells : (j : Kept) → with_tables connections told_held told_entries j ≡ tells ts (with_tables roomy k.held moved j)
+  pub tells : (j : Kept) →
+      with_tables connections told_held told_entries j ≡ tells ts (with_tables roomy k.held moved j)
   pub closes : (j : Kept) (job : OpenJob) → job_in number k.jobs ≡ Some job →
       closes_job number false job.members (with_jobs told_entries told_held k.jobs j) ≡ with_jobs entries held jobs j
 

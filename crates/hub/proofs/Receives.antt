@@ -1,5 +1,6 @@
 -- What each message of a client does, by what it asks for.
-use Rattle.std.proofs.Common.{◌≡◌, ◌∙◌, sym, ap, refl, subst, ℕ, ◌||◌, cond, Bool, true, false, Some, None, Ok, Err, Option, Result, IfOk, List, [], ◌∷◌}
+use Rattle.std.proofs.Common.{◌≡◌, ◌∙◌, sym, ap, refl, subst, ℕ, ◌||◌, cond, Bool, true, false, Some, None, Ok, Err}
+use Rattle.std.proofs.Common.{Option, Result, IfOk, List, [], ◌∷◌}
 use Rattle.std.specs.Option.{is_some, option_map}
 use Rattle.std.specs.Prelude.{unwrap_or}
 use Rattle.std.specs.List.{find, list_any}
@@ -35,7 +36,8 @@ use Rattle.wire_model.specs.Steps.{action, on_fresh, on_acked, closes_with}
 use Rattle.ws_message.specs.declared.client.ClientMsg.{ClientMsg}
 use Rattle.ws_message.specs.declared.client.ClientMsg.TheVariants as told
 use Rattle.ws_message.specs.Meant.{meant, request_meant}
-use Rattle.machine.specs.Messages.{Message, Init, Subscribe, Complete, Ping, Pong, Bad, IsRead, Means, init, subscribe, complete, ping, pong, bad, id_of, plain}
+use Rattle.machine.specs.Messages.{Message, Init, Subscribe, Complete, Ping, Pong, Bad, IsRead, Means, Says, init}
+use Rattle.machine.specs.Messages.{subscribe, complete, ping, pong, bad, id_of, plain}
 use Rattle.machine.specs.declared.phase.Phase.{Phase}
 use Rattle.machine.specs.declared.phase.Phase.TheVariants.{Fresh, Acknowledged, Closed}
 use Rattle.machine.specs.State.{Event, Receive, Binary, ConnectionUnknown, Did}
@@ -50,9 +52,12 @@ use Rattle.hub_model.specs.Replies.{ConnAnswers}
 use Rattle.hub_model.proofs.Items.{Among, found_among}
 use Rattle.hub_model.proofs.Found.{has_live_id, asked_as}
 use Rattle.hub_model.proofs.Joins.{Asks}
-use Rattle.hub_model.proofs.Conversations.{receive_unknown, binary_unknown, binary_by, receive_pong, receive_ignored, receive_closing, receive_allowed, receive_forbidden, receive_admitted, receive_refused, receive_ended}
+use Rattle.hub_model.proofs.Conversations.{receive_unknown, binary_unknown, binary_by, receive_pong, receive_ignored}
+use Rattle.hub_model.proofs.Conversations.{receive_closing, receive_allowed, receive_forbidden, receive_admitted}
+use Rattle.hub_model.proofs.Conversations.{receive_refused, receive_ended}
 use Rattle.hub.specs.Parts.{ClosesBy, did_nothing}
-use Rattle.hub.specs.Messages.{phase_in, stage_in, has_id, live_as, id_in, AsksFor, Received, SaysBy, AcknowledgesBy, EndsBy, JoinsBy, refusal_text, joining, IsReady}
+use Rattle.hub.specs.Messages.{phase_in, stage_in, has_id, live_as, id_in, AsksFor, Received, SaysBy, AcknowledgesBy}
+use Rattle.hub.specs.Messages.{EndsBy, JoinsBy, refusal_text, joining, IsReady}
 use Rattle.hub.specs.declared.conversation.Ready.{Ready}
 use Rattle.hub.proofs.Runs.{is_run}
 
@@ -217,10 +222,7 @@ some_event conn msg P f = (Receive conn (some_message msg), f (some_message msg)
 
 pub received : (k k' : Kept) (conn : ℕ) (msg : ClientMessage) (reply : ConnReply) →
     ((m : Message) → IsLike msg m → ConnAnswers k k' conn (Receive conn m) reply) → Received k k' conn msg reply
-received k k' conn msg reply f = record {
-  each = λ m w. f m (like_means msg m w);
-  some = (some_message msg, f (some_message msg) (like_some msg));
-}
+received k k' conn msg reply f = λ m w. f m (like_means msg m w)
 
 -- the reply of a call that some event allows
 pub each_received : (k k' : Kept) (conn : ℕ) (msg : ClientMessage) (P : Event → Type 0)
@@ -251,6 +253,24 @@ pub receives_unknown : (conn : ℕ) (k k' : Kept) → stage_in conn k ≡ None �
 receives_unknown conn k k' at new m =
     subst (λ (x : Kept). Does k x (Receive conn m) ConnectionUnknown [] []) (sym new)
     (receive_unknown conn k (unknown_in conn k at) m)
+
+-- a text, of which this was read
+pub each_said : (k k' : Kept) (conn : ℕ) (text : List ℕ) (msg : ClientMessage) (r : Result ConnReply NoMemory) →
+    msg ≡ client.message text → IfOk r (Received k k' conn msg) → (m : Message) → Says text m →
+    IfOk r (λ reply. ConnAnswers k k' conn (Receive conn m) reply)
+each_said k k' conn text msg (Ok reply) is h m says = h m (subst (λ (c : ClientMessage). Means c m) (sym is) says)
+each_said k k' conn text msg (Err e) is h m says = tt
+
+pub some_said : (k k' : Kept) (conn : ℕ) (msg : ClientMessage) (r : Result ConnReply NoMemory) (m : Message) →
+    Means msg m → IfOk r (Received k k' conn msg) →
+    IfOk r (λ reply. (said : Message) × ConnAnswers k k' conn (Receive conn said) reply)
+some_said k k' conn msg (Ok reply) m means h = (m, h m means)
+some_said k k' conn msg (Err e) m means h = tt
+
+pub is_heard : (k k' : Kept) (conn : ℕ) (msg : ClientMessage) (m : Message) (r : Result ConnReply NoMemory) →
+    Means msg m → IfOk r (Received k k' conn msg) → IfOk r (λ reply. ConnAnswers k k' conn (Receive conn m) reply)
+is_heard k k' conn msg m (Ok reply) means h = h m means
+is_heard k k' conn msg m (Err e) means h = tt
 
 -- ---- binary messages
 
@@ -357,11 +377,8 @@ module _ (conn : ℕ) (k : Kept) (msg : ClientMessage) (i : AsksFor conn msg act
 -- one message alone is meant
 pub init_received : (k k' : Kept) (conn : ℕ) (payload : Option Data) (reply : ConnReply) →
     ConnAnswers k k' conn (Receive conn (Init payload)) reply → Received k k' conn (client.Init payload) reply
-init_received k k' conn payload reply does = record {
-  each = λ m w.
-      subst (λ (n : Message). ConnAnswers k k' conn (Receive conn n) reply) (sym (means_init payload m w)) does;
-  some = (Init payload, does);
-}
+init_received k k' conn payload reply does =
+    λ m w. subst (λ (n : Message). ConnAnswers k k' conn (Receive conn n) reply) (sym (means_init payload m w)) does
 
 pub each_init_received : (k k' : Kept) (conn : ℕ) (payload : Option Data) (P : Event → Type 0)
     (r : Result ConnReply NoMemory) →
@@ -466,13 +483,11 @@ pub subscribe_received : (k k' : Kept) (conn : ℕ) (id : List ℕ) (request : c
     IfOk r (λ reply. (e : Event) → P e → ConnAnswers k k' conn e reply) → AnsweredAs k.meta session request a →
     ((asked : Asked) → answered k.meta session asked ≡ a → P (Receive conn (Subscribe id asked))) →
     IfOk r (Received k k' conn (client.Subscribe id request))
-subscribe_received k k' conn id request session a P (Ok reply) f is g = record {
-  each = λ m w.
-      let s = means_subscribe id request m w in
-      subst (λ (n : Message). ConnAnswers k k' conn (Receive conn n) reply) (sym s.is)
-      (f (Receive conn (Subscribe id s.asked)) (g s.asked (is.each s.asked s.read)));
-  some = (Subscribe id is.some.0, f (Receive conn (Subscribe id is.some.0)) (g is.some.0 is.some.1));
-}
+subscribe_received k k' conn id request session a P (Ok reply) f is g =
+    λ m w.
+    let s = means_subscribe id request m w in
+    subst (λ (n : Message). ConnAnswers k k' conn (Receive conn n) reply) (sym s.is)
+    (f (Receive conn (Subscribe id s.asked)) (g s.asked (is.each s.asked s.read)))
 subscribe_received k k' conn id request session a P (Err e) f is g = tt
 
 module _ (conn : ℕ) (k : Kept) (id : List ℕ) (request : client.Request)

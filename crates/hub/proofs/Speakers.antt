@@ -1,19 +1,17 @@
 -- What a job is made of.
-use Rattle.std.proofs.Common.{◌≡◌, ◌⊎◌, ◌∙◌, inl, inr, sym, ap, refl, subst, ℕ, zero, suc, ◌+◌, ◌-◌, ◌<◌, ◌≤◌, max, ◌==◌, ◌&&◌, ◌||◌, Bool, true, false, Some, None, Option, List, [], ◌∷◌, ◌++◌, length, take, set, get_or, slice_get, replicate, arith}
-use Rattle.std.specs.Option.{is_some, option_map}
-use Rattle.std.specs.List.{AllByRecursion, AllZip, list_any, find}
+use Rattle.std.proofs.Common.{◌≡◌, ◌∙◌, inl, inr, sym, ap, refl, ℕ, zero, suc, ◌+◌, ◌-◌, ◌<◌, ◌≤◌, max}
+use Rattle.std.proofs.Common.{◌==◌, ◌||◌, Bool, true, false, Some, List, [], ◌∷◌, ◌++◌, length}
+use Rattle.std.proofs.Common.{take, set, get_or, slice_get, replicate, arith}
+use Rattle.std.specs.List.{AllByRecursion, list_any}
 use Rattle.std.proofs.lemmas.Bool.{eqb-true, eq-eqb}
 use Rattle.std.proofs.lemmas.List.{take_more}
 use Rattle.std.proofs.lemmas.List.Folds.{list_any-append}
-use Rattle.std.proofs.lemmas.Option.{slice_get_within}
-use Rattle.std.proofs.lemmas.Slice.Zip.{AllZip-long}
-use Rattle.plan_model.specs.declared.filter.Binding.{Binding}
 use Rattle.cohort_map.specs.declared.member.Member.{Member}
 use Rattle.cohort_map.specs.Entries.{Entry, is_entry, entry_at, has}
-use Rattle.batch_rel.specs.declared.relation.RelRow.{RelRow}
-use Rattle.hub_model.proofs.Items.{any_among, among_any, and_true, and_both, or_true_left, or_true_right, not_both, all_among}
+use Rattle.hub_model.proofs.Items.{any_among, and_true, and_both, or_true_left, or_true_right, not_both}
+use Rattle.hub_model.proofs.Items.{all_among}
 use Rattle.hub_model.proofs.Filtered.{by_test, among_found}
-use Rattle.hub.specs.Taking.{most, ArePlaces, has_id, speaks, IsSpeaker, AreSpeakers, HasEntry, HasBinding}
+use Rattle.hub.specs.Taking.{most, has_id, speaks, IsSpeaker, HasEntry}
 
 -- ---- the greatest id
 
@@ -98,5 +96,6 @@ pub speaker_has : (entries : List Entry) (members : List Member) (other id numbe
 speaker_has entries members other id number all h (inl a) =
     let m = any_among (speaks id number) members a in
     let is = and_true (m.0.id == id) (m.0.sub == number) m.2 in
-    ap (λ (n : ℕ). has n entries) (sym (eqb-true m.0.sub number is.1)) ∙ all_among (HasEntry entries) members m.0 m.1 all
+    ap (λ (n : ℕ). has n entries) (sym (eqb-true m.0.sub number is.1))
+    ∙ all_among (HasEntry entries) members m.0 m.1 all
 speaker_has entries members other id number all h (inr (a, b)) = ap (λ (n : ℕ). has n entries) a ∙ h

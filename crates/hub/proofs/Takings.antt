@@ -1,12 +1,14 @@
 -- A batch, and the job that is made of it.
-use Rattle.std.proofs.Common.{◌≡◌, ◌⊎◌, ◌∙◌, inl, inr, sym, ap, refl, subst, ℕ, zero, suc, ◌+◌, ◌-◌, ◌<◌, ◌≤◌, max, ◌==◌, nat_lt, Bool, true, false, Some, None, Option, List, [], ◌∷◌, length, slice_get, arith}
+use Rattle.std.proofs.Common.{◌≡◌, ◌∙◌, inl, inr, sym, ap, refl, subst, ℕ, zero, suc, ◌+◌, ◌<◌, ◌≤◌, max}
+use Rattle.std.proofs.Common.{◌==◌, nat_lt, true, Some, None, Option, List, [], ◌∷◌, length, slice_get}
+use Rattle.std.proofs.Common.{arith}
 use Rattle.std.specs.Option.{is_some}
 use Rattle.std.specs.List.{AllByRecursion, AllZip, list_any, find}
 use Rattle.std.proofs.lemmas.Bool.{eqb-true, eq-eqb, ltb-true, ltb-false}
 use Rattle.std.proofs.lemmas.Option.{slice_get_within, same_Some}
 use Rattle.std.proofs.lemmas.Slice.Zip.{AllZip-long}
 use Rattle.cohort_map.specs.declared.member.Member.{Member}
-use Rattle.cohort_map.specs.Entries.{Entry, is_entry, is_due, is_live_entry, has, has_live}
+use Rattle.cohort_map.specs.Entries.{Entry, is_entry, is_due, is_live_entry, has}
 use Rattle.cohort_map.specs.Batches.{chosen, batch_from, batch_of}
 use Rattle.batch_rel.specs.declared.relation.RelRow.{RelRow}
 use Rattle.subscription_table.specs.Kept.{held_at}
@@ -14,7 +16,8 @@ use Rattle.machine.specs.State.{State, Subscription}
 use Rattle.machine.specs.Batches.{subscription_at}
 use Rattle.hub_model.specs.declared.job.Job.{Job}
 use Rattle.hub_model.specs.Kept.{Kept, Represents}
-use Rattle.hub_model.proofs.Items.{Among, any_among, among_any, and_true, and_both, not_any, not_both, some_of, all_from_among}
+use Rattle.hub_model.proofs.Items.{Among, any_among, among_any, and_true, and_both, not_any, not_both, some_of}
+use Rattle.hub_model.proofs.Items.{all_from_among}
 use Rattle.hub_model.proofs.Filtered.{by_test}
 use Rattle.hub_model.proofs.Reached.{IsRun}
 use Rattle.hub_model.proofs.Chosen.{IsMemberIn, member_in, AreDueLive}
@@ -22,17 +25,18 @@ use Rattle.hub_model.proofs.Told.{is_live_at, has_live_is, held_for}
 use Rattle.hub_model.proofs.Takes.{due_entries}
 use Rattle.hub_model.proofs.TakenJobs.{AsksFor, binding_at}
 use Rattle.hub_model.proofs.Relations.{IsRelation, ids_below, rows_for, rows_of, own_numbers}
-use Rattle.hub.specs.Taking.{most, ArePlaces, has_id, speaks, IsSpeaker, AreSpeakers, HasEntry, HasBinding, AreBindings, IsJobFor}
+use Rattle.hub.specs.Taking.{most, ArePlaces, has_id, speaks, IsSpeaker, HasEntry, HasBinding}
+use Rattle.hub.specs.Taking.{AreBindings, IsJobFor}
 
 -- ---- the members of a batch
 
-batch_member : (limit : ℕ) (entries : List Entry) (o : Option Entry) (m : Member) → Among m (batch_from limit entries o) →
-    (first : Entry) × IsMemberIn (chosen limit entries first) entries m
+batch_member : (limit : ℕ) (entries : List Entry) (o : Option Entry) (m : Member) →
+    Among m (batch_from limit entries o) → (first : Entry) × IsMemberIn (chosen limit entries first) entries m
 batch_member limit entries (Some first) m a = (first, member_in (chosen limit entries first) entries m a)
 batch_member limit entries None m a = absurd a
 
-in_batch : (limit : ℕ) (entries : List Entry) (members : List Member) → members ≡ batch_of limit entries → (m : Member) →
-    Among m members → (first : Entry) × IsMemberIn (chosen limit entries first) entries m
+in_batch : (limit : ℕ) (entries : List Entry) (members : List Member) → members ≡ batch_of limit entries →
+    (m : Member) → Among m members → (first : Entry) × IsMemberIn (chosen limit entries first) entries m
 in_batch limit entries members is m a =
     batch_member limit entries (find is_due entries) m (subst (λ (ms : List Member). Among m ms) is a)
 
@@ -84,7 +88,8 @@ pub first_has_entry : (limit : ℕ) (entries : List Entry) (members : List Membe
 first_has_entry limit entries members m is e = has_entry limit entries members is m (first_among members m e)
 
 pub first_is_held : (k : Kept) (s : State) (members : List Member) (m : Member) → IsRun s → Represents k s →
-    members ≡ batch_of k.meta.batch_size k.entries → Some m ≡ slice_get members 0 → is_some (held_at m.sub k.held) ≡ true
+    members ≡ batch_of k.meta.batch_size k.entries → Some m ≡ slice_get members 0 →
+    is_some (held_at m.sub k.held) ≡ true
 first_is_held k s members m w r is e = is_held k s members w r is m (first_among members m e)
 
 -- ---- result ids
@@ -117,6 +122,11 @@ zip_got entries (n ∷ subs) (r ∷ relation) all zero row e =
     (n, refl, subst (HasBinding entries n) (same_Some r row e) all.0)
 zip_got entries (n ∷ subs) (r ∷ relation) all (suc i) row e = zip_got entries subs relation all.1 i row e
 
+speaks_some : (members : List Member) (other id number : ℕ) → list_any (has_id id) members ≡ true →
+    IsSpeaker members other id number → list_any (speaks id number) members ≡ true
+speaks_some members other id number some (inl a) = a
+speaks_some members other id number some (inr a) = absurd (not_both (list_any (has_id id) members) some a.1)
+
 relation_is : (limit : ℕ) (entries : List Entry) (members : List Member) (other : ℕ) (relation : List RelRow) →
     members ≡ batch_of limit entries → AreDueLive entries → AreBindings entries members other relation →
     IsRelation entries members relation
@@ -132,8 +142,8 @@ relation_is limit entries members other relation is live b =
           let some = among_any (has_id (i + 1)) there.member members there.among
           (eq-eqb there.member.id (i + 1) there.id_is) in
           let n = zip_got entries b.subs relation b.bindings i row got in
-          let m = any_among (speaks (i + 1) n.0) members
-          (elim (b.speakers.each i n.0 n.1) [ inl a ↦ a | inr a ↦ absurd (not_both (list_any (has_id (i + 1)) members) some a.1) ]) in
+          let says = speaks_some members other (i + 1) n.0 some (b.speakers.each i n.0 n.1) in
+          let m = any_among (speaks (i + 1) n.0) members says in
           let are = and_true (m.0.id == i + 1) (m.0.sub == n.0) m.2 in
           record {
             member = m.0;

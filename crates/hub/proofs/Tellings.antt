@@ -1,5 +1,6 @@
 -- Texts that are kept while members are told, and what is told.
-use Rattle.std.proofs.Common.{◌≡◌, ◌∙◌, sym, ap, ℕ, zero, suc, ◌-◌, true, if◌then◌else◌, Some, None, Option, List, [], ◌∷◌, length, map, slice_get, set, replicate, take, get_or, ◌++◌, ◌+◌, ◌<◌, arith}
+use Rattle.std.proofs.Common.{◌≡◌, ◌∙◌, sym, ap, ℕ, zero, suc, ◌-◌, true, if◌then◌else◌, Some, None, Option, List, []}
+use Rattle.std.proofs.Common.{◌∷◌, length, map, slice_get, set, replicate, take, get_or, ◌++◌, ◌+◌, ◌<◌, arith}
 use Rattle.std.proofs.lemmas.List.{take_more}
 use Rattle.std.proofs.lemmas.List.Elements.{filter_map-append}
 use Rattle.std.specs.List.{filter_map, cons_option}
@@ -14,13 +15,14 @@ use Rattle.hub_model.specs.Tellings.{telling_by, telling_with}
 use Rattle.hub.specs.Telling.{AreKept, IsKeptOf, told, text_of}
 
 -- what is kept at a place may be its text
-pub kept_set : (texts : List (List ℕ)) (kept : List (Option (List ℕ))) (place : ℕ) (text other : List ℕ) → other ≡ text →
-    slice_get texts place ≡ Some text → AreKept texts kept → AreKept texts (set kept place (Some other))
+pub kept_set : (texts : List (List ℕ)) (kept : List (Option (List ℕ))) (place : ℕ) (text other : List ℕ) →
+    other ≡ text → slice_get texts place ≡ Some text → AreKept texts kept → AreKept texts (set kept place (Some other))
 kept_set [] [] place text other is at all = tt
 kept_set [] (x ∷ kept) place text other is at all = absurd all
 kept_set (t ∷ texts) [] place text other is at all = absurd all
 kept_set (t ∷ texts) (x ∷ kept) zero text other is at all = (is ∙ sym (same_Some t text at), all.1)
-kept_set (t ∷ texts) (x ∷ kept) (suc place) text other is at all = (all.0, kept_set texts kept place text other is at all.1)
+kept_set (t ∷ texts) (x ∷ kept) (suc place) text other is at all =
+    (all.0, kept_set texts kept place text other is at all.1)
 
 pub kept_at : (texts : List (List ℕ)) (kept : List (Option (List ℕ))) (place : ℕ) (text : List ℕ) →
     slice_get texts place ≡ Some text → AreKept texts kept → IsKeptOf text (slice_get kept place)
@@ -42,8 +44,9 @@ pub text_at : (outcomes : List Outcome) (place : ℕ) (o : Outcome) → slice_ge
 text_at outcomes place o at = slice_get-map text_of outcomes place ∙ ap (option_map text_of) at
 
 -- what a live member is told
-pub told_is : (entries : List Entry) (held : List Held) (outcomes : List Outcome) (m : Member) (h : Held) (o : Outcome) →
-    has_live m.sub entries ≡ true → held_at m.sub held ≡ Some h → slice_get outcomes (m.id - 1) ≡ Some o →
+pub told_is : (entries : List Entry) (held : List Held) (outcomes : List Outcome) (m : Member) (h : Held)
+    (o : Outcome) → has_live m.sub entries ≡ true → held_at m.sub held ≡ Some h →
+    slice_get outcomes (m.id - 1) ≡ Some o →
     told entries held outcomes m ≡ telling_by h.kind h o
 told_is entries held outcomes m h o live at of = λ i. if live i then telling_with (at i) (of i) else None
 

@@ -77,10 +77,9 @@ pub record AsksFor (conn : ℕ) (msg : ClientMessage) (a : Action) (k : Kept) : 
   pub at : known conn k ≡ Some connected
   pub is : action (stage_of connected.phase) msg (is_some (live_as conn (id_in msg) k)) ≡ a
 
--- What a client's message did, whatever reading it gives; and there is a message of the machine that does so.
-pub record Received (k k' : Kept) (conn : ℕ) (msg : ClientMessage) (reply : ConnReply) : Type 0 where
-  pub each : (m : Message) → Means msg m → ConnAnswers k k' conn (Receive conn m) reply
-  pub some : (m : Message) × ConnAnswers k k' conn (Receive conn m) reply
+-- what a client's message did, whatever reading it gives
+abbrev pub Received : Kept → Kept → ℕ → ClientMessage → ConnReply → Type 0
+Received k k' conn msg reply = (m : Message) → Means msg m → ConnAnswers k k' conn (Receive conn m) reply
 
 -- ---- events
 

@@ -1,6 +1,7 @@
 -- What a job is made of: the plan of its first member, and for each of its cohorts the binding of one member. This
 -- project's own.
-use Rattle.std.specs.Prelude.{◌≡◌, ◌⊎◌, ◌≤◌, ◌+◌, ◌&&◌, ◌==◌, ℕ, max, Bool, true, false, Some, List, [], ◌∷◌, length, slice_get}
+use Rattle.std.specs.Prelude.{◌≡◌, ◌⊎◌, ◌≤◌, ◌+◌, ◌&&◌, ◌==◌, ℕ, max, Bool, true, false, Some, List, [], ◌∷◌, length}
+use Rattle.std.specs.Prelude.{slice_get}
 use Rattle.std.specs.Option.{option_map}
 use Rattle.std.specs.List.{AllByRecursion, AllZip, list_any}
 use Rattle.cohort_map.specs.declared.member.Member.{Member}
@@ -44,7 +45,8 @@ abbrev pub HasBinding : List Entry → ℕ → RelRow → Type 0
 HasBinding entries number row = option_map (λ (e : Entry). e.binding) (entry_at number entries) ≡ Some row.binding
 
 -- the bindings of members, one for each result id
-pub record AreBindings (entries : List Entry) (members : List Member) (other : ℕ) (relation : List RelRow) : Type 0 where
+pub record AreBindings (entries : List Entry) (members : List Member) (other : ℕ) (relation : List RelRow) :
+    Type 0 where
   pub subs : List ℕ
   pub speakers : AreSpeakers members other subs
   pub bindings : AllZip (HasBinding entries) subs relation

@@ -1,6 +1,7 @@
 -- Texts of results that are kept while members are told, and what members are told by what the hub's tables hold. This
 -- project's own.
-use Rattle.std.specs.Prelude.{◌≡◌, ⊤, ℕ, true, if◌then◌else◌, is_some, ◌-◌, Option, Some, None, List, map, flat_map, slice_get}
+use Rattle.std.specs.Prelude.{◌≡◌, ⊤, ℕ, true, if◌then◌else◌, is_some, ◌-◌, Option, Some, None, List, map, flat_map}
+use Rattle.std.specs.Prelude.{slice_get}
 use Rattle.std.specs.List.{AllByRecursion, AllZip, filter_map}
 use Rattle.plan_model.specs.Outcomes.{Outcome}
 use Rattle.cohort_map.specs.declared.member.Member.{Member}

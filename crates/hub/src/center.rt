@@ -201,7 +201,7 @@ impl Hub {
     }
 
     /// The first text leaves a connection's queue. `Empty` and `Done` where there is none: the connection is open, or
-    /// was closed with this reason. It takes no memory.
+    /// was closed with this reason. `ConnUnknown` exactly where it isn't known. It takes no memory.
     pub fn drain_one(&mut self, conn: u32) -> DrainReply
         requires { self.old.events < 2 ^ 62 }
         ensures { DrainAnswers self.old self.new conn result }

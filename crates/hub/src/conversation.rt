@@ -32,6 +32,7 @@ ghost use Rattle.connection_table.specs.Connected.{changed, with_live, with_text
 ghost use Rattle.hub_model.specs.Steps.{counted, ended};
 ghost use Rattle.hub_model.specs.Replies.{ConnAnswers};
 ghost use Rattle.hub.specs.Parts.{did_nothing};
+ghost use Rattle.hub.specs.Readings.{IsReadAs, ReadsRequest};
 ghost use Rattle.hub.specs.Messages.{
   stage_in,
   phase_in,
@@ -52,6 +53,7 @@ ghost use Rattle.hub.specs.Messages.{
 
 use crate::center::{Hub, nothing};
 use crate::ends::end_one;
+use crate::reading::{Parts, Said, Selection, admit_read, read_parts};
 use admission_laws::requests;
 use cohort_map::{CohortMap, PollerKey};
 use connection_table::ConnectionTable;
@@ -59,7 +61,7 @@ use hub_model::{ConnReply, Effect};
 use json_out::Request;
 use machine::{Phase, Queued, QueuedList};
 use outbox::OutText;
-use plan_build::{AdmitFault, Admitted, QueryFault, SubKind, admit, fault_code, fault_text};
+use plan_build::{AdmitFault, Admitted, QueryFault, SubKind, fault_code, fault_text};
 use plan_core::Binding;
 use request_model::canonical_texts;
 use role_model::{Identity, Session};
@@ -70,7 +72,7 @@ use session_vars::identify;
 use std::alloc::Global;
 use subscription_table::{Held, SharedPlan, SubscriptionTable};
 use wire_model::{Action, CloseReason, Phase as Stage, ServerMsg, close_exists};
-use ws_message::{ClientMsg, read_client, write_server};
+use ws_message::{ClientMsg, write_server};
 use ws_session::step;
 
 /// The id in a message, and an empty one where there is none in it.
@@ -204,13 +206,15 @@ fn ready_with(alloc: Global, session: &Session, admitted: Admitted) -> Result<Re
     })
 }
 
-/// What a request comes to.
+/// What a request comes to that is read.
 fn made_ready(
     alloc: Global,
     meta: &Meta,
     session: &Session,
     request: &Request,
+    selection: &Selection,
 ) -> Result<Ready, AdmitFault>
+    requires { ReadsRequest request.now selection.now }
     ensures ok { IfOk result (IsReady meta.now session.now request.now) }
     ensures refused { (fault : QueryFault) → result ≡ Err (AdmitFault.Refused fault) →
         Admits meta.now session.now request.now.query request.now.operation
@@ -218,7 +222,7 @@ fn made_ready(
 {
     canonical_texts();
     meta.is_metadata();
-    let admitted = admit(alloc, meta, session, request)?;
+    let admitted = admit_read(alloc, meta, session, request, selection)?;
     Ok(ready_with(alloc, session, admitted)?)
 }
 
@@ -298,15 +302,35 @@ impl Hub {
             × ConnAnswers self.old self.new conn (Receive conn message) reply) }
         ensures err { OnErr result (self.new ≡ self.old) }
     {
+        let parts = read_parts(alloc, text)?;
+        self.hear_parts(alloc, conn, &parts)
+    }
+
+    /// A text that was read before comes on a connection. `ConnUnknown` exactly where the connection isn't known. For
+    /// want of memory nothing has changed.
+    pub fn hear(&mut self, alloc: Global, conn: u32, said: &Said) -> Result<ConnReply, NoMemory>
+        requires { self.old.events < 2 ^ 62 }
+        ensures reply { IfOk result (λ reply. ConnAnswers self.old self.new conn (Receive conn said.now) reply) }
+        ensures err { OnErr result (self.new ≡ self.old) }
+    {
+        self.hear_parts(alloc, conn, &said.parts)
+    }
+
+    fn hear_parts(&mut self, alloc: Global, conn: u32, parts: &Parts) -> Result<ConnReply, NoMemory>
+        requires room { self.old.events < 2 ^ 62 }
+        requires read { IsReadAs parts.now.msg parts.now.selection }
+        ensures reply { IfOk result (Received self.old self.new conn (meant parts.now.msg)) }
+        ensures err { OnErr result (self.new ≡ self.old) }
+    {
         let Some(stage) = self.stage(conn) else {
             self.count();
             return Ok(ConnReply::ConnUnknown);
         };
-        let msg = read_client(alloc, text)?;
-        self.receive(alloc, conn, stage, &msg)
+        self.receive(alloc, conn, stage, parts)
     }
 
-    /// A binary message comes on a connection, which is no message of the protocol. It takes no memory.
+    /// A binary message comes on a connection, which is no message of the protocol. `ConnUnknown` exactly where the
+    /// connection isn't known. It takes no memory.
     pub fn binary(&mut self, alloc: Global, conn: u32) -> ConnReply
         requires { self.old.events < 2 ^ 62 }
         ensures { ConnAnswers self.old self.new conn (Binary conn) result }
@@ -344,16 +368,18 @@ impl Hub {
         alloc: Global,
         conn: u32,
         stage: Stage,
-        msg: &ClientMsg,
+        parts: &Parts,
     ) -> Result<ConnReply, NoMemory>
         requires room { self.old.events < 2 ^ 62 }
         requires stage { stage_in conn self.old ≡ Some stage }
-        ensures reply { IfOk result (Received self.old self.new conn (meant msg.now)) }
+        requires read { IsReadAs parts.now.msg parts.now.selection }
+        ensures reply { IfOk result (Received self.old self.new conn (meant parts.now.msg)) }
         ensures err { OnErr result (self.new ≡ self.old) }
     {
+        let msg = &parts.msg;
         match self.asked(conn, stage, msg) {
             Action::Identify => self.identify(alloc, conn, msg),
-            Action::Admit => self.subscribe(alloc, conn, msg),
+            Action::Admit => self.subscribe(alloc, conn, parts),
             Action::End => match self.live_number(conn, id_of(msg)) {
                 Some(number) => Ok(self.end(alloc, conn, number)),
                 None => unreachable!(),
@@ -433,8 +459,15 @@ impl Hub {
     }
 
     /// What a request on a connection that is acknowledged comes to.
-    fn admitted(&self, alloc: Global, conn: u32, request: &Request) -> Result<Ready, AdmitFault>
-        requires { (session : Session) × (phase_in conn self.now ≡ Some (Phase.Acknowledged session)) }
+    fn admitted(
+        &self,
+        alloc: Global,
+        conn: u32,
+        request: &Request,
+        selection: &Selection,
+    ) -> Result<Ready, AdmitFault>
+        requires session { (session : Session) × (phase_in conn self.now ≡ Some (Phase.Acknowledged session)) }
+        requires read { ReadsRequest request.now selection.now }
         ensures ok { (session : Session) → phase_in conn self.now ≡ Some (Phase.Acknowledged session) →
             IfOk result (IsReady self.now.meta session request.now) }
         ensures refused { (session : Session) → phase_in conn self.now ≡ Some (Phase.Acknowledged session) →
@@ -444,29 +477,28 @@ impl Hub {
     {
         match self.connections.phase(conn) {
             Some(Phase::Acknowledged { session }) => made_ready(
-                alloc, &self.meta, session, request,
+                alloc, &self.meta, session, request, selection,
             ),
             _ => unreachable!(),
         }
     }
 
     /// A `subscribe` on a connection that is acknowledged, with an id that isn't live there.
-    fn subscribe(
-        &mut self,
-        alloc: Global,
-        conn: u32,
-        msg: &ClientMsg,
-    ) -> Result<ConnReply, NoMemory>
+    fn subscribe(&mut self, alloc: Global, conn: u32, parts: &Parts) -> Result<ConnReply, NoMemory>
         requires room { self.old.events < 2 ^ 62 }
-        requires asks { AsksFor conn (meant msg.now) Action.Admit self.old }
-        ensures reply { IfOk result (Received self.old self.new conn (meant msg.now)) }
+        requires asks { AsksFor conn (meant parts.now.msg) Action.Admit self.old }
+        requires read { IsReadAs parts.now.msg parts.now.selection }
+        ensures reply { IfOk result (Received self.old self.new conn (meant parts.now.msg)) }
         ensures err { OnErr result (self.new ≡ self.old) }
     {
         requests();
-        let ClientMsg::Subscribe { id, request } = msg else {
+        let ClientMsg::Subscribe { id, request } = &parts.msg else {
             unreachable!()
         };
-        match self.admitted(alloc, conn, request) {
+        let Some(selection) = &parts.selection else {
+            unreachable!()
+        };
+        match self.admitted(alloc, conn, request, selection) {
             Ok(ready) => self.join(alloc, conn, id.as_str(), ready),
             Err(AdmitFault::Refused(fault)) => self.refuse(alloc, conn, id.as_str(), &fault),
             Err(AdmitFault::NoMemory) => Err(NoMemory),

@@ -65,8 +65,8 @@ impl Hub {
         })
     }
 
-    /// A connection's peer is gone: its subscriptions end, what is queued is dropped, and it is no longer known. It
-    /// takes no memory.
+    /// A connection's peer is gone: its subscriptions end, what is queued is dropped, and it is no longer known.
+    /// `ConnUnknown` exactly where it wasn't before. It takes no memory.
     pub fn gone(&mut self, alloc: Global, conn: u32) -> ConnReply
         requires { self.old.events < 2 ^ 62 }
         ensures { ConnAnswers self.old self.new conn (Gone conn) result }
@@ -82,7 +82,8 @@ impl Hub {
         nothing(alloc)
     }
 
-    /// No `connection_init` came in time: a connection on which none was acknowledged is closed. It takes no memory.
+    /// No `connection_init` came in time: a connection that is neither acknowledged nor closed is closed. `ConnUnknown`
+    /// exactly where it isn't known. It takes no memory.
     pub fn timeout(&mut self, alloc: Global, conn: u32) -> ConnReply
         requires { self.old.events < 2 ^ 62 }
         ensures { ConnAnswers self.old self.new conn (Timeout conn) result }

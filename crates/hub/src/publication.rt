@@ -1,5 +1,6 @@
 //! The publication of a job's answers.
-ghost use Rattle.std.specs.Prelude.{◌≡◌, ◌^◌, ◌<◌, ◌-◌, ℕ, [], ◌++◌, List, map, length, filter_map, IfOk, IfErr, OnOk, OnErr};
+ghost use Rattle.std.specs.Prelude.{◌≡◌, ◌^◌, ◌<◌, ◌-◌, ℕ, [], ◌++◌, List, map, length, filter_map, IfOk, IfErr};
+ghost use Rattle.std.specs.Prelude.{OnOk, OnErr};
 ghost use Rattle.machine.specs.State.{Event};
 ghost use Rattle.stream_cursor.specs.Moves.{AreApart, AreStreams, rekeyed};
 ghost use Rattle.hub_model.specs.Kept.{Kept};
@@ -7,7 +8,8 @@ ghost use Rattle.hub_model.specs.Jobs.{AnswersOf};
 ghost use Rattle.hub_model.specs.Stands.{StandsFor};
 ghost use Rattle.hub_model.specs.Replies.{PublishAnswers};
 ghost use Rattle.hub_model.specs.Tellings.{move_of, queued_by, queued_all, queues_all, tells, tells_one};
-ghost use Rattle.hub.specs.Telling.{AreKept, AreKnown, IsKnown, all_told, promised_by, promised_for, text_of, told, with_connected, with_tables};
+ghost use Rattle.hub.specs.Telling.{AreKept, AreKnown, IsKnown, all_told, promised_by, promised_for, text_of, told};
+ghost use Rattle.hub.specs.Telling.{with_connected, with_tables};
 
 use crate::center::Hub;
 use crate::ends::end_one;
@@ -151,8 +153,8 @@ fn promise_all(connections: &mut ConnectionTable, tellings: &[Telling]) -> Resul
     Ok(())
 }
 
-/// Makes all that needs memory, the texts that are queued among it; the streams have moved then, and there is room for all
-/// texts. For want of memory nothing has changed.
+/// Makes all that needs memory, the texts that are queued among it; the streams have moved then, and there is room for
+/// all texts. For want of memory nothing has changed.
 fn prepare(
     alloc: Global,
     connections: &mut ConnectionTable,
@@ -249,10 +251,10 @@ fn tell_all(
 
 impl Hub {
     /// Publishes the answers of a job and closes it: each member that is live is told its result, in the order of their
-    /// numbers. A live query is told its first result and each that differs from the one before; a query that is answered once
-    /// is told its result and that it is complete, and ends; a stream is told its next rows, where there are any, and moves
-    /// along. `NotOpen` exactly where the number isn't that of an open job. For want of memory nothing has changed, and the
-    /// answers are handed back whole.
+    /// numbers. A live query is told its first result and each that differs from the one before; a query that is
+    /// answered once is told its result and that it is complete, and ends; a stream is told its next rows, where there
+    /// are any, and moves along. `NotOpen` exactly where the number isn't that of an open job. For want of memory
+    /// nothing has changed, and the answers are handed back whole.
     pub fn publish(&mut self, alloc: Global, answers: Answers) -> Result<PublishReply, Answers>
         requires room { self.old.events < 2 ^ 62 }
         requires answers { (h : List Event) × StandsFor self.old h × AnswersOf self.old.meta answers h }

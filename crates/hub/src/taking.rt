@@ -1,5 +1,6 @@
 //! The taking of jobs.
-ghost use Rattle.std.specs.Prelude.{◌≡◌, ◌^◌, ◌<◌, ◌+◌, ◌-◌, ◌++◌, ◌∷◌, [], true, is_some, Some, length, slice_set, IfOk, OnErr};
+ghost use Rattle.std.specs.Prelude.{◌≡◌, ◌^◌, ◌<◌, ◌+◌, ◌-◌, ◌++◌, ◌∷◌, [], true, is_some, Some, length, slice_set};
+ghost use Rattle.std.specs.Prelude.{IfOk, OnErr};
 ghost use Rattle.std.specs.Option.{option_map};
 ghost use Rattle.std.specs.List.{AllByRecursion};
 ghost use Rattle.plan_model.specs.declared.filter.Binding.{Binding};
@@ -136,9 +137,9 @@ impl Hub {
         })
     }
 
-    /// Takes a job of the poller that is due first: its cohorts with a due member, in the order of their least due numbers and
-    /// no more than the batch size, with all of their live subscriptions, at the version now. `None` exactly where nobody is
-    /// due. For want of memory nothing has changed.
+    /// Takes a job of the poller that is due first: its cohorts with a due member, in the order of their least due
+    /// numbers and no more than the batch size, with all of their live subscriptions, at the version now. `None`
+    /// exactly where nobody is due. For want of memory nothing has changed.
     pub fn take(&mut self, alloc: Global) -> Result<Option<Job>, NoMemory>
         requires { self.old.events < 2 ^ 62 }
         ensures reply { IfOk result (λ job. TakeAnswers self.old self.new job) }

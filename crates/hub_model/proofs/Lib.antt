@@ -30,3 +30,4 @@ pub mod Streams
 pub mod Answered
 pub mod OpenJobs
 pub mod ApartRuns
+pub mod JobLaws

@@ -1,5 +1,5 @@
 -- Which jobs and which answers are those of a take. This project's own.
-use Rattle.std.specs.Prelude.{◌≡◌, ◌-◌, Option, Some, List, map, slice_get}
+use Rattle.std.specs.Prelude.{◌≡◌, ◌-◌, Option, Some, List, ◌++◌, map, slice_get}
 use Rattle.std.specs.Option.{option_map}
 use Rattle.std.specs.List.{AllByRecursion}
 use Rattle.data_model.specs.Rows.{Database}
@@ -58,3 +58,12 @@ pub record AnswersOf (meta : Metadata) (answers : Answers) (h : List Event) : Ty
   pub number : taking.job.number ≡ answers.number
   pub results : AreResults meta (database_of meta taking.state taking.job) taking.state.subscriptions answers.outcomes
       taking.job.members
+
+-- ---- what a take gave stays so, however long the history goes on
+
+abbrev pub JobsStay : Metadata → Type 0
+JobsStay meta = (job : Job) (h more : List Event) → JobOf meta job h → JobOf meta job (h ++ more)
+
+abbrev pub AnswersStay : Metadata → Type 0
+AnswersStay meta = (answers : Answers) (h more : List Event) → AnswersOf meta answers h →
+    AnswersOf meta answers (h ++ more)

@@ -1,4 +1,7 @@
-ghost use Rattle.std.specs.Prelude.{◌≡◌};
+ghost use Rattle.std.specs.Prelude.{◌≡◌, List};
+ghost use Rattle.role_model.specs.declared.metadata.Metadata.{Metadata};
+ghost use Rattle.machine.specs.State.{Event};
+ghost use Rattle.hub_model.specs.Jobs.{evaluated, AnswersOf, AnswersStay, JobOf, JobsStay};
 
 use batch_rel::Relation;
 use cohort_map::MemberList;
@@ -47,6 +50,9 @@ impl Answers {
     pub fn of(job: &Job, outcomes: OutcomeList) -> Answers
         ensures number { result.number ≡ job.now.number }
         ensures outcomes { result.outcomes ≡ outcomes }
+        // Those that the evaluation of a job gives may be published.
+        ensures answers { (meta : Metadata) → (h : List Event) → JobOf meta job.now h → outcomes ≡ evaluated job.now →
+            AnswersOf meta result h }
     {
         Answers {
             number: job.number,
@@ -68,3 +74,9 @@ impl Answers {
         self.outcomes.as_slice()
     }
 }
+
+/// A job stays that of its take, and answers stay those of their job, however long the history goes on.
+pub fn job_laws()
+    ensures jobs { (meta : Metadata) → JobsStay meta }
+    ensures answers { (meta : Metadata) → AnswersStay meta }
+{}

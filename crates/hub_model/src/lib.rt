@@ -6,7 +6,9 @@
 mod job;
 mod reply;
 mod telling;
+#[cfg(test)]
+mod tests;
 
-pub use job::{Answers, Job, OpenJob, OutcomeList};
+pub use job::{Answers, Job, OpenJob, OutcomeList, job_laws};
 pub use reply::{CommitReply, ConnReply, DrainReply, Effect, PublishReply};
 pub use telling::{Change, Telling, TellingList};

@@ -1,9 +1,7 @@
 use Rattle.std.proofs.Common.{◌≡◌, ◌∙◌, sym, ap, if◌then◌else◌, List}
 use Rattle.cohort_map.specs.Entries.{Entry, has, left}
-use Rattle.subscription_table.specs.declared.held.Held.{Held}
 use Rattle.subscription_table.specs.Kept.{without}
 use Rattle.hub_model.specs.declared.telling.Change.{Change}
-use Rattle.hub_model.specs.Kept.{Kept}
 use Rattle.hub_model.specs.Tellings.{changes}
 use Rattle.hub.specs.Telling.{with_tables}
 use Rattle.hub.proofs.publication.tell.Goals as goal

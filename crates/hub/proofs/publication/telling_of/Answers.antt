@@ -1,4 +1,4 @@
-use Rattle.std.proofs.Common.{◌≡◌, ◌∙◌, sym, ap, subst, ◌-◌, Some, Option, length, map, slice_get, IfOk, refl, arith}
+use Rattle.std.proofs.Common.{◌≡◌, ◌∙◌, sym, ap, subst, Option, length, map, slice_get, IfOk, refl, arith}
 use Rattle.std.proofs.lemmas.List.{length-map}
 use Rattle.std.proofs.lemmas.Option.{slice_get_read}
 use Rattle.std.proofs.lemmas.Slice.Zip.{AllZip-long}
@@ -21,7 +21,8 @@ telling_by-requires-clause-text c =
     let at = slice_get_read c.args.outcomes.now (length c.args.outcomes.now) c.place_of-place.result
     c.index-outcomes-place.result refl c.if-place-outcomes.false c.index-outcomes-place.is in
     kept_at (map text_of c.args.outcomes.now) c.args.kept.now.items c.place_of-place.result
-    c.index-outcomes-place.result.text (text_at c.args.outcomes.now c.place_of-place.result c.index-outcomes-place.result at)
+    c.index-outcomes-place.result.text
+    (text_at c.args.outcomes.now c.place_of-place.result c.index-outcomes-place.result at)
     c.requires
 
 pub returns-clause-ok : goal.returns-clause-ok

@@ -1,4 +1,4 @@
-use Rattle.std.proofs.Common.{◌≡◌, ◌∙◌, sym, ap, subst, get_or, List, ℕ, Option, [], ◌++◌, map, append-nil}
+use Rattle.std.proofs.Common.{◌∙◌, sym, ap, subst, get_or, List, ℕ, Option, [], ◌++◌, map, append-nil}
 use Rattle.std.proofs.lemmas.List.{length-map, get_or_default}
 use Rattle.std.specs.List.{cons_option}
 use Rattle.cohort_map.specs.declared.member.Member.{Member}

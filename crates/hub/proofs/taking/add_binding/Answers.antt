@@ -1,6 +1,5 @@
-use Rattle.std.proofs.Common.{◌≡◌, ◌∙◌, ap, None, Some, Option}
+use Rattle.std.proofs.Common.{◌≡◌, ◌∙◌, ap, None, Some}
 use Rattle.std.specs.Option.{option_map}
-use Rattle.plan_model.specs.declared.filter.Binding.{Binding}
 use Rattle.cohort_map.specs.Entries.{Entry}
 use Rattle.hub.proofs.Speakers.{entry_of_number}
 use Rattle.hub.proofs.taking.add_binding.Goals as goal

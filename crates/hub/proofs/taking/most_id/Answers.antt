@@ -1,6 +1,5 @@
-use Rattle.std.proofs.Common.{◌≡◌, ◌∙◌, sym, ap, ◌+◌, max, take, get_or, arith}
+use Rattle.std.proofs.Common.{◌≡◌, ◌∙◌, sym, ap, ℕ, max, get_or, arith}
 use Rattle.cohort_map.specs.declared.member.Member.{Member}
-use Rattle.hub.specs.Taking.{most}
 use Rattle.hub.proofs.Speakers.{most_more}
 use Rattle.hub.proofs.taking.most_id.Goals as goal
 use Rattle.hub.proofs.taking.most_id.Goals.{then-member-most, else-member-most}
@@ -16,6 +15,6 @@ loop-member-preserved c =
       | then-member-most w ↦ let a = w.most-is in let b = w.if-member-most.true in omega (arith, a, b)
       | else-member-most w ↦ let a = w.most-is in let b = w.if-member-most.false in omega (arith, a, b)
     ] in
-    let same : max c.loop-member.most (get_or members i zero).id ≡ max (most (take i members)) (get_or members i zero).id =
-    ap (λ n. max n (get_or members i zero).id) before in
-    larger ∙ same ∙ sym (most_more members i zero c.loop-member-test.true)
+    larger
+    ∙ ap (λ (n : ℕ). max n (get_or members i zero).id) before
+    ∙ sym (most_more members i zero c.loop-member-test.true)

@@ -1,4 +1,5 @@
-use Rattle.std.proofs.Common.{◌≡◌, ◌∙◌, sym, ap, subst, true, ◌+◌, ◌<◌, ℕ, Some, List, [], ◌∷◌, ◌++◌, take, get_or, slice_get, length, arith}
+use Rattle.std.proofs.Common.{◌≡◌, ◌∙◌, sym, ap, subst, true, ◌+◌, ◌<◌, ℕ, Some, List, [], ◌∷◌, ◌++◌, take, get_or}
+use Rattle.std.proofs.Common.{slice_get, length, arith}
 use Rattle.std.specs.Option.{option_map}
 use Rattle.std.specs.List.{AllZip}
 use Rattle.std.proofs.lemmas.List.{take_more, length-take-le}
@@ -53,6 +54,7 @@ loop-sub-preserved c =
     let row : RelRow = record { id = length c.loop-sub.relation + 1; binding = e.0.binding } in
     let binding = ap (option_map (λ (e : Entry). e.binding)) e.1 in
     let added = c.in_ok-add_binding.ensures e.0.binding binding in
-    subst (λ (ns : List ℕ). AllZip (HasBinding entries) ns c.add_binding.new.relation) (sym (take_more subs i 0 c.loop-sub-test.true))
+    subst (λ (ns : List ℕ). AllZip (HasBinding entries) ns c.add_binding.new.relation)
+    (sym (take_more subs i 0 c.loop-sub-test.true))
     (subst (λ (rows : List RelRow). AllZip (HasBinding entries) (take i subs ++ number ∷ []) rows) (sym added)
     (all_zipped_more (HasBinding entries) (take i subs) c.loop-sub.relation number row c.loop-sub.invariant binding))

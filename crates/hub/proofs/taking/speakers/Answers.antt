@@ -1,4 +1,4 @@
-use Rattle.std.proofs.Common.{◌≡◌, ◌∙◌, sym, ap, subst, ◌+◌, ◌≤◌, ℕ, List, take, get_or, slice_get, length, length-set}
+use Rattle.std.proofs.Common.{◌∙◌, sym, ap, subst, ◌+◌, ◌≤◌, ℕ, List, take, get_or, slice_get, length, length-set}
 use Rattle.std.proofs.lemmas.List.{take_more}
 use Rattle.std.proofs.lemmas.List.Elements.{All-get_or, All-from_recursion}
 use Rattle.cohort_map.specs.declared.member.Member.{Member}
@@ -20,6 +20,7 @@ loop-member-preserved c =
       λ j number got.
           subst (λ (ms : List Member). IsSpeaker ms c.args.first (j + 1) number)
           (sym (take_more members i zero c.loop-member-test.true))
-          (speaks_more (take i members) member c.args.first c.loop-member.subs.items low c.loop-member.invariant.1 j number
+          (speaks_more (take i members) member c.args.first c.loop-member.subs.items low c.loop-member.invariant.1
+          j number
           (ap (λ (ns : List ℕ). slice_get ns j) (sym c.speak.ensures) ∙ got)),
     )

@@ -1,9 +1,9 @@
-use Rattle.std.proofs.Common.{◌≡◌, ◌∙◌, sym, ap, subst, ℕ, ◌≤◌, ◌+◌, Bool, true, false, Some, List, [], ◌∷◌, arith}
+use Rattle.std.proofs.Common.{◌≡◌, ◌∙◌, sym, ap, subst, ℕ, ◌+◌, Bool, true, false, Some, List, [], arith}
 use Rattle.std.specs.Option.{is_some}
 use Rattle.std.specs.List.{filter_map}
 use Rattle.plan_model.specs.Outcomes.{Outcome}
 use Rattle.cohort_map.specs.declared.member.Member.{Member}
-use Rattle.stream_cursor.specs.Moves.{AreApart, AreStreams, rekeyed}
+use Rattle.stream_cursor.specs.Moves.{rekeyed}
 use Rattle.machine.specs.State.{Event, Publish, NotOpen}
 use Rattle.hub_model.specs.declared.job.Answers.{Answers}
 use Rattle.hub_model.specs.declared.job.OpenJob.{OpenJob}
@@ -20,7 +20,7 @@ use Rattle.hub_model.proofs.Publishes.{unopened}
 use Rattle.hub.specs.declared.center.Hub.TheInside.{Inside}
 use Rattle.hub.specs.Seen.{seen}
 use Rattle.hub.specs.Parts.{job_in, members_in, with_jobs}
-use Rattle.hub.specs.Telling.{AreKnown, all_told}
+use Rattle.hub.specs.Telling.{all_told}
 use Rattle.hub.proofs.Sound.{sound_after}
 use Rattle.hub.proofs.Publishing.{MayBeTold, told_in, may_tell, AreParts, after, Publishes, publishes_as}
 use Rattle.hub.proofs.center.Hub.publish.Goals as goal
@@ -71,8 +71,8 @@ returns-then-not-is_open-clause-reply c =
 
 opened : (c : After-as_slice) → is_some (job_in c.args.answers.number c.self.inside.jobs.items) ≡ true
 opened c =
-    is_opened c.args.answers.number c.number-number.result c.self.inside.jobs.items c.deref.result.now c.is_open.result _
-    c.is_open.ensures c.number-number.ensures c.deref.ensures.value c.if-not-is_open.false
+    is_opened c.args.answers.number c.number-number.result c.self.inside.jobs.items c.deref.result.now c.is_open.result
+    _ c.is_open.ensures c.number-number.ensures c.deref.ensures.value c.if-not-is_open.false
 
 told : (c : After-as_slice) → c.in-Ok.tellings ≡ told_in (seen c.self.inside) c.args.answers
 told c =
@@ -123,7 +123,8 @@ published : (c : After-close_job) → c.in-Ok.tellings ≡ told_in (seen c.self.
     is_some (job_in c.args.answers.number c.self.inside.jobs.items) ≡ true →
     HasAnswers c.args.answers (seen c.self.inside) →
     Publishes (seen c.self.inside) (after (seen c.self.inside) c.tell_all.new.connections.connections
-    c.close_job.new.cohorts.entries c.close_job.new.held c.close_job.new.jobs.items) c.args.answers c.in-Ok-prepare.queued
+    c.close_job.new.cohorts.entries c.close_job.new.held c.close_job.new.jobs.items) c.args.answers
+    c.in-Ok-prepare.queued
 published c is job a =
     publishes_as (seen c.self.inside) c.args.answers c.in-Ok.tellings c.in-Ok-prepare.queued
     c.tell_all.new.connections.connections c.close_job.new.cohorts.entries c.close_job.new.held

@@ -1,4 +1,4 @@
-use Rattle.std.proofs.Common.{◌≡◌, ◌∙◌, sym, ap, subst, ℕ, ◌≤◌, ◌+◌, true, Some, List, [], ◌∷◌, ◌++◌, slice_get, arith}
+use Rattle.std.proofs.Common.{◌≡◌, ◌∙◌, sym, ap, subst, ℕ, ◌≤◌, ◌+◌, true, List, [], ◌∷◌, ◌++◌, arith}
 use Rattle.std.specs.Option.{is_some}
 use Rattle.std.specs.List.{AllByRecursion}
 use Rattle.data_model.specs.Rows.{Fits}
@@ -68,7 +68,8 @@ nobody : (c : After-get) → (c.in_ok-members.members ≡ []) →
 nobody c none =
     let k = seen c.self.inside in
     does_nobody k (is_run k.meta)
-    (subst (λ (n : ℕ). 1 ≤ n) c.batch_size-size.ensures.value c.batch_size-size.ensures.range.0) (sym (is_batch c) ∙ none)
+    (subst (λ (n : ℕ). 1 ≤ n) c.batch_size-size.ensures.value c.batch_size-size.ensures.range.0)
+    (sym (is_batch c) ∙ none)
 
 pub invariant_of-self : goal.invariant_of-self
 invariant_of-self c =
@@ -128,7 +129,8 @@ took c is =
     (takes_as k members job.number job.version c.open_job.new.self.entries c.push_reserved.new.self.items made.number
     made.version c.open_job.ensures.entries
     (c.push_reserved.ensures.items
-    ∙ ap (λ (jobs : List OpenJob). jobs ++ record { number = job.number; version = job.version; members = members } ∷ [])
+    ∙ ap (λ (jobs : List OpenJob).
+    jobs ++ record { number = job.number; version = job.version; members = members } ∷ [])
     c.in_ok-reserve.ensures.items))
     (took_job c.results.ensures.planned c.plans.ensures.fit c.pollers.ensures.plan k members job (is_run k.meta)
     (jobs_apart k.meta) (takes_counted k.meta)
@@ -139,7 +141,8 @@ pub invariant_of-self-2 : goal.invariant_of-self-2
 invariant_of-self-2 c =
     let x = c.self.inside in
     let s = c.self.invariant in
-    let t = took (goal.at.invariant_of-self-2 c).After-push_reserved (is_batch (goal.at.invariant_of-self-2 c).After-get) in
+    let at = goal.at.invariant_of-self-2 c in
+    let t = took at.After-push_reserved (is_batch at.After-get) in
     record {
       catalog = s.catalog;
       promised = s.promised;
@@ -153,6 +156,6 @@ invariant_of-self-2 c =
 
 pub returns-clause-reply : goal.returns-clause-reply
 returns-clause-reply c =
-    subst (λ (k : Kept). TookJob k (after (seen c.self.inside) c.open_job.new.self.entries c.push_reserved.new.self.items)
-    c.in_ok-job.job) c.self.view_is
+    subst (λ (k : Kept). TookJob k (after (seen c.self.inside) c.open_job.new.self.entries
+    c.push_reserved.new.self.items) c.in_ok-job.job) c.self.view_is
     (took (goal.at.returns-clause-reply c).After-push_reserved (is_batch (goal.at.returns-clause-reply c).After-get))
