@@ -14,6 +14,7 @@ use std::sync::ledger::Ledger;
 pub struct FreeGate;
 
 /// A stop that nobody makes.
+#[derive(Drop)]
 pub enum Never {}
 
 impl Gate for FreeGate {
