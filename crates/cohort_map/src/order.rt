@@ -31,10 +31,14 @@ fn compare_texts(a: &str, b: &str) -> Ordering
 fn compare_pollers(a: &PollerKey, b: &PollerKey) -> Ordering
     ensures { result ≡ poller_cmp a.now b.now }
 {
-    rank_of_word(a.word)
-        .cmp(&rank_of_word(b.word))
-        .then(compare_texts(a.role.as_str(), b.role.as_str()))
-        .then(compare_texts(a.canon.as_str(), b.canon.as_str()))
+    match rank_of_word(a.word).cmp(&rank_of_word(b.word)) {
+        Ordering::Equal => {}
+        order => return order,
+    }
+    match compare_texts(a.role.as_str(), b.role.as_str()) {
+        Ordering::Equal => compare_texts(a.canon.as_str(), b.canon.as_str()),
+        order => order,
+    }
 }
 
 pub(crate) fn is_same_poller(a: &PollerKey, b: &PollerKey) -> bool
@@ -100,15 +104,23 @@ fn compare_all_slots(a: &[Slot], b: &[Slot]) -> Ordering
 fn compare_bindings(a: &Binding, b: &Binding) -> Ordering
     ensures { result ≡ binding_cmp a.now b.now }
 {
-    cmp(&a.cursor, &b.cursor)
-        .then(compare_all_slots(a.vars.as_slice(), b.vars.as_slice()))
-        .then(compare_values(a.session.as_slice(), b.session.as_slice()))
+    match cmp(&a.cursor, &b.cursor) {
+        Ordering::Equal => {}
+        order => return order,
+    }
+    match compare_all_slots(a.vars.as_slice(), b.vars.as_slice()) {
+        Ordering::Equal => compare_values(a.session.as_slice(), b.session.as_slice()),
+        order => order,
+    }
 }
 
 fn compare(a: &CohortKey, b: &CohortKey) -> Ordering
     ensures { result ≡ key_cmp a.now b.now }
 {
-    compare_bindings(&a.binding, &b.binding).then(compare_pollers(&a.poller, &b.poller))
+    match compare_bindings(&a.binding, &b.binding) {
+        Ordering::Equal => compare_pollers(&a.poller, &b.poller),
+        order => order,
+    }
 }
 
 impl PartialEq for CohortKey {
