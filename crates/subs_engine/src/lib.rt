@@ -22,5 +22,3 @@ pub use poll::Polled;
 
 #[cfg(test)]
 mod tests;
-#[cfg(test)]
-mod thread_tests;

@@ -31,7 +31,7 @@ const NEXT: &str =
 
 const ANN: &str = r#"[{"insert":"user","row":{"id":1,"name":"Ann"}}]"#;
 
-pub(crate) fn new_engine(alloc: Global) -> Result<(Engine, Pass), Fail>
+fn new_engine(alloc: Global) -> Result<(Engine, Pass), Fail>
     ensures { IfOk result (λ r. (r.1.lock ≡ r.0) × (r.1.has_turn ≡ false)) }
 {
     match Meta::read(alloc, META.as_bytes()) {
@@ -40,7 +40,7 @@ pub(crate) fn new_engine(alloc: Global) -> Result<(Engine, Pass), Fail>
     }
 }
 
-pub(crate) fn reply_to<R: Wait>(
+fn reply_to<R: Wait>(
     rt: &R,
     alloc: Global,
     engine: &Engine,
@@ -57,7 +57,7 @@ pub(crate) fn reply_to<R: Wait>(
 }
 
 // A text is received and done.
-pub(crate) fn is_done<R: Wait>(
+fn is_done<R: Wait>(
     rt: &R,
     alloc: Global,
     engine: &Engine,
@@ -108,12 +108,7 @@ fn is_first<R: Wait>(
 }
 
 // A connection with a subscription.
-pub(crate) fn subscribe<R: Wait>(
-    rt: &R,
-    alloc: Global,
-    engine: &Engine,
-    pass: &mut Pass,
-) -> Result<bool, Fail>
+fn subscribe<R: Wait>(rt: &R, alloc: Global, engine: &Engine, pass: &mut Pass) -> Result<bool, Fail>
     requires { (pass.old.lock ≡ engine.now) × (pass.old.has_turn ≡ false) }
     ensures { (pass.new.lock ≡ pass.old.lock) × (pass.new.has_turn ≡ false) }
 {
@@ -153,12 +148,7 @@ fn polled<R: Wait>(rt: &R, alloc: Global, engine: &Engine, pass: &mut Pass) -> R
 }
 
 /// What there is.
-pub(crate) fn counts<R: Wait>(
-    rt: &R,
-    alloc: Global,
-    engine: &Engine,
-    pass: &mut Pass,
-) -> Result<Counts, Fail>
+fn counts<R: Wait>(rt: &R, alloc: Global, engine: &Engine, pass: &mut Pass) -> Result<Counts, Fail>
     requires { (pass.old.lock ≡ engine.now) × (pass.old.has_turn ≡ false) }
     ensures { (pass.new.lock ≡ pass.old.lock) × (pass.new.has_turn ≡ false) }
 {

@@ -1,5 +1,0 @@
-use Rattle.std.proofs.Common.{◌≡◌, false}
-use Rattle.subs_engine.proofs.thread_tests.connect.Given as goal
-
-abbrev pub invariant-loop-number : goal.invariant-loop-number
-invariant-loop-number g l = (l.pass.lock ≡ l.engine) × (l.pass.has_turn ≡ false)

@@ -1,4 +1,0 @@
-use Rattle.subs_engine.proofs.thread_tests.poll_by.Given as goal
-
-abbrev pub ghosts-poll_with : goal.ghosts-poll_with
-ghosts-poll_with g a = record { name = a.blank.name; parts = a.blank.parts }
