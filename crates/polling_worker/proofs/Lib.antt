@@ -1,0 +1,4 @@
+pub mod Lists
+pub mod Polling
+pub mod Beginning
+pub mod Working
