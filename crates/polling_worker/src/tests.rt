@@ -9,9 +9,7 @@ use std::marker::Brand;
 use std::sync::Wait;
 use std::sync::ledger::{Blank, Ledger};
 use std::test::Fail;
-use std::thread;
-use std::thread::Threads;
-use subs_engine::{Engine, Event, Hold, HoldGate, HoldStop, Pass, Reply};
+use subs_engine::{DrainReply, Engine, Event, Hold, HoldGate, HoldStop, Pass, Reply};
 
 const METADATA: &str = "version = 1
 [[tables]]
@@ -25,11 +23,8 @@ const INIT: &str = "{\"type\":\"connection_init\"}";
 const USERS: &str =
     "{\"type\":\"subscribe\",\"id\":\"a\",\"payload\":{\"query\":\"subscription { user { id } }\"}}";
 
-const NAMES: &str =
-    "{\"type\":\"subscribe\",\"id\":\"b\",\"payload\":{\"query\":\"subscription { user { name } }\"}}";
-
-/// Looks at whether the second job came, until the workers give up. In each there is time for the other worker.
-const LOOKS: u64 = 1_000_000;
+/// So often the gate looks for a second job, which never comes.
+const LOOKS: u64 = 3;
 
 fn start(alloc: Global) -> Result<(Engine, Pass), Fail>
     ensures { IfOk result (λ started. (started.1.lock ≡ started.0) × (started.1.has_turn ≡ false)) }
@@ -70,65 +65,65 @@ fn say<R: Wait>(
     tell(rt, alloc, engine, pass, Event::Text(1, text))
 }
 
-fn work<R: Wait, L: Ledger>(
+// A connection with a subscription.
+fn with_subscription<R: Wait>(rt: &R, alloc: Global) -> Result<(Engine, Pass), Fail>
+    ensures { IfOk result (λ started. (started.1.lock ≡ started.0) × (started.1.has_turn ≡ false)) }
+{
+    let (engine, mut pass) = start(alloc)?;
+    tell(rt, alloc, &engine, &mut pass, Event::Connect(1))?;
+    say(rt, alloc, &engine, &mut pass, INIT)?;
+    say(rt, alloc, &engine, &mut pass, USERS)?;
+    Ok((engine, pass))
+}
+
+// Whether a worker that makes ticks was told by its gate that the looks are used up.
+fn works_with<R: Wait, L: Ledger>(
     rt: &R,
     alloc: Global,
     engine: &Engine,
-    pass: Pass,
-    gate: &HoldGate<'_>,
+    pass: &mut Pass,
     blank: Blank,
 ) -> bool
-    requires pass { (pass.lock ≡ engine.now) × (pass.has_turn ≡ false) }
+    requires pass { (pass.old.lock ≡ engine.now) × (pass.old.has_turn ≡ false) }
     requires name { blank.name ≡ L.name }
     requires parts { blank.parts ≡ L.parts }
     requires some { 0 < blank.parts }
+    ensures { (pass.new.lock ≡ pass.old.lock) × (pass.new.has_turn ≡ false) }
 {
-    let mut pass = pass;
+    let hold = Hold::new();
+    let gate = HoldGate::new(&hold, LOOKS);
     let mut clock = ListClock::new(Vec::new(alloc));
     let mut steps = Steps::<L>::new(blank);
     let stop = poll_worker(
-        rt, alloc, engine, &mut pass, false, 1000, &mut clock, gate, &mut steps,
+        rt, alloc, engine, pass, true, 1000, &mut clock, &gate, &mut steps,
     );
-    matches!(stop, Ok(HoldStop::Called))
+    matches!(stop, Ok(HoldStop::Limit))
 }
 
-/// Both workers, in threads of their own, and whether each was told that the second job came.
-fn in_two_threads<R: Threads + Wait + Sync>(
-    rt: &R,
-    alloc: Global,
-    engine: &Engine,
-    gate: &HoldGate<'_>,
-    first: Pass,
-    second: Pass,
-) -> (bool, bool)
-    requires first { (first.lock ≡ engine.now) × (first.has_turn ≡ false) }
-    requires second { (second.lock ≡ engine.now) × (second.has_turn ≡ false) }
+fn works<R: Wait>(rt: &R, alloc: Global, engine: &Engine, pass: &mut Pass) -> bool
+    requires { (pass.old.lock ≡ engine.now) × (pass.old.has_turn ≡ false) }
+    ensures { (pass.new.lock ≡ pass.old.lock) × (pass.new.has_turn ≡ false) }
 {
-    thread::join(
-        rt,
-        move || -> bool
-            requires { (first.lock ≡ engine.now) × (first.has_turn ≡ false) }
-        { work::<R, Brand>(rt, alloc, engine, first, gate, Blank::new(1)) },
-        move || -> bool
-            requires { (second.lock ≡ engine.now) × (second.has_turn ≡ false) }
-        { work::<R, Brand>(rt, alloc, engine, second, gate, Blank::new(1)) },
-    )
+    works_with::<R, Brand>(rt, alloc, engine, pass, Blank::new(1))
+}
+
+// Whether the queue has a text, which is taken out.
+fn is_told<R: Wait>(rt: &R, alloc: Global, engine: &Engine, pass: &mut Pass) -> bool
+    requires { (pass.old.lock ≡ engine.now) × (pass.old.has_turn ≡ false) }
+    ensures { (pass.new.lock ≡ pass.old.lock) × (pass.new.has_turn ≡ false) }
+{
+    let drained = engine.call(rt, alloc, pass, Event::Drain(1));
+    matches!(drained, Ok(Reply::Drain(DrainReply::Sent(_))))
 }
 
 #[test]
-fn a_worker_evaluates_while_another_does(rt: HostRuntime) -> Result<(), Fail> {
+fn a_worker_makes_a_tick_and_polls(rt: HostRuntime) -> Result<(), Fail> {
     let alloc = rt.alloc();
-    let (engine, mut pass) = start(alloc)?;
-    tell(&rt, alloc, &engine, &mut pass, Event::Connect(1))?;
-    say(&rt, alloc, &engine, &mut pass, INIT)?;
-    say(&rt, alloc, &engine, &mut pass, USERS)?;
-    say(&rt, alloc, &engine, &mut pass, NAMES)?;
-    tell(&rt, alloc, &engine, &mut pass, Event::Tick)?;
-    let other = engine.split(&mut pass)?;
-    let hold = Hold::new();
-    let gate = HoldGate::new(&hold, LOOKS);
-    let (first, second) = in_two_threads(&rt, alloc, &engine, &gate, pass, other);
-    assert!(&rt; first);
-    assert!(&rt; second);
+    let (engine, mut pass) = with_subscription(&rt, alloc)?;
+    assert!(&rt; works(&rt, alloc, &engine, &mut pass));
+    // the acknowledgement, and then the first result
+    assert!(&rt; is_told(&rt, alloc, &engine, &mut pass));
+    assert!(&rt; is_told(&rt, alloc, &engine, &mut pass));
+    assert!(&rt; !is_told(&rt, alloc, &engine, &mut pass));
     Ok(())
 }
