@@ -1,12 +1,14 @@
 ghost use Rattle.std.specs.Prelude.{◌≡◌, IfOk};
 
+use crate::bell::Bell;
 use crate::link::WsLink;
-use crate::paced::Paced;
+use crate::paced::{Paced, READ_MS};
 use http::{HeaderName, HeaderValue, Request, Response, StatusCode};
 use outside::Link;
 use std::alloc::Global;
 use std::io;
-use std::net::TcpStream;
+use std::io::ErrorKind;
+use std::net::{Net, TcpStream};
 use std::time::Duration;
 use thiserror::Error;
 use tungstenite::handshake::server::{ErrorResponse, start};
@@ -20,9 +22,6 @@ const MAX_MESSAGE: usize = 1_048_576;
 
 /// How many bytes one read asks for. Each connection holds two buffers of this size.
 const READ_BUFFER: usize = 8192;
-
-/// After so many milliseconds a read that gave no byte ends.
-const READ_MS: u64 = 50;
 
 /// After so many milliseconds without room at the peer a write fails.
 const WRITE_MS: u64 = 10_000;
@@ -92,22 +91,34 @@ fn has_subprotocol(offers: &str) -> bool {
 }
 
 /// Does the server's part of the WebSocket handshake (RFC 6455, section 4.2) over a stream, and makes the link. Any
-/// path is taken. A handshake that isn't whole after 200 reads, each of which waits 50 ms at most, has failed.
-pub fn accept_ws(alloc: Global, stream: TcpStream) -> Result<WsLink, WsFault>
+/// path is taken. A handshake that isn't whole after 200 reads, each of which waits 50 ms at most, has failed. The link
+/// then hears the bell.
+pub fn accept_ws<R: Net>(
+    rt: &R,
+    alloc: Global,
+    stream: TcpStream,
+    bell: &'static Bell,
+) -> Result<WsLink, WsFault>
     ensures { IfOk result (λ link. ⟦<WsLink as Link>⟧.faults link ≡ 0) }
 {
-    if set_options(&stream).is_err() {
-        return Err(WsFault::Handshake);
-    }
+    let stream = match pace(rt, alloc, stream) {
+        Ok(stream) => stream,
+        Err(error) if error.kind() == ErrorKind::OutOfMemory => return Err(WsFault::NoMemory),
+        Err(_) => return Err(WsFault::Handshake),
+    };
     let config = WebSocketConfig::default()
         .max_message_size(Some(MAX_MESSAGE))
         .max_frame_size(Some(MAX_MESSAGE))
         .read_buffer_size(READ_BUFFER);
-    let stream = Paced::new(stream, HANDSHAKE_READS);
     let mut handshake = start(alloc, stream, Choose(alloc), Some(config));
     for _ in 0..=HANDSHAKE_READS {
         match handshake.handshake() {
-            Ok(socket) => return Ok(WsLink::new(alloc, socket)),
+            Ok(mut socket) => {
+                return match socket.get_mut().hear(bell) {
+                    Ok(()) => Ok(WsLink::new(alloc, socket)),
+                    Err(_) => Err(WsFault::Handshake),
+                };
+            }
             Err(HandshakeError::Interrupted(rest)) => handshake = rest,
             Err(HandshakeError::Failure(error)) => return Err(fault_of(&error)),
         }
@@ -116,10 +127,11 @@ pub fn accept_ws(alloc: Global, stream: TcpStream) -> Result<WsLink, WsFault>
 }
 
 /// Small messages go out at once, and neither reads nor writes wait for ever.
-fn set_options(stream: &TcpStream) -> io::Result<()> {
+fn pace<R: Net>(rt: &R, alloc: Global, stream: TcpStream) -> io::Result<Paced> {
     stream.set_nodelay(true)?;
     stream.set_read_timeout(Some(Duration::from_millis(READ_MS)))?;
-    stream.set_write_timeout(Some(Duration::from_millis(WRITE_MS)))
+    stream.set_write_timeout(Some(Duration::from_millis(WRITE_MS)))?;
+    Paced::new(rt, alloc, stream, HANDSHAKE_READS)
 }
 
 fn fault_of(error: &SocketError) -> WsFault {

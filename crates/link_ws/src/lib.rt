@@ -2,11 +2,13 @@
 #![tactic(auto)]
 
 mod answer;
+mod bell;
 mod handshake;
 mod link;
 mod paced;
 mod port;
 
+pub use bell::Bell;
 pub use handshake::{WsFault, accept_ws};
 pub use link::WsLink;
 pub use port::{WsConn, WsPort};

@@ -9,7 +9,7 @@ use std::io::{ErrorKind, Read};
 use std::str;
 use tungstenite::{CloseCode, CloseFrame, Error, Message, NoMask, Utf8Bytes, WebSocket};
 
-/// So many reads of the stream a `recv` takes at most before it answers `Idle`: some 0.8 seconds, where a peer sends
+/// So many reads of the stream a `recv` takes at most before it answers `Idle`: some 1.3 seconds, where a peer sends
 /// one byte after the other.
 const RECV_READS: u32 = 16;
 
@@ -21,11 +21,11 @@ const CLOSE_IDLES: u32 = 20;
 
 /// A link over a WebSocket. It tells neither what comes nor what was sent.
 ///
-/// `recv` answers `Idle` where nothing came for 50 ms, after a ping or a pong, and in the middle of a long message;
-/// what came of a message is kept. Pings are answered, and so is the peer's close before `PeerClosed`. A message of
-/// more than 1,048,576 bytes, a text that isn't UTF-8 and all else that RFC 6455 forbids end the link: the peer is sent
-/// a close with 1009, 1007 or 1002, and the answer is `Failed`. So is that of a `send` for which the peer has no room
-/// for 10 seconds.
+/// `recv` answers `Idle` where the bell rang, where nothing came for 50 ms, or for 500 ms if nothing had come in the
+/// wait before either, after a ping or a pong, and in the middle of a long message; what came of a message is kept.
+/// Pings are answered, and so is the peer's close before `PeerClosed`. A message of more than 1,048,576 bytes, a text
+/// that isn't UTF-8 and all else that RFC 6455 forbids end the link: the peer is sent a close with 1009, 1007 or 1002,
+/// and the answer is `Failed`. So is that of a `send` for which the peer has no room for 10 seconds.
 #[derive(Drop)]
 pub struct WsLink {
     alloc: Global,
@@ -81,7 +81,7 @@ impl Link for WsLink {
     ghost faults = { λ link. link.faults };
 
     fn recv(&mut self) -> LinkIn {
-        self.socket.get_mut().allow(RECV_READS);
+        self.socket.get_mut().listen(RECV_READS);
         let read = self.socket.read();
         if let Some(code) = breach_of(&read) {
             leave(&mut self.socket, code);

@@ -1,10 +1,14 @@
-//! The program: it makes the real ends, hands them to the top call, and ends with that call's status.
+//! The program: it makes the real ends, hands them to the top call of its command, and ends with that call's status.
 #![tactic(auto)]
 
 ghost use Rattle.std.specs.Prelude.{◌≡◌};
 
+mod bell_gate;
+mod serve;
+
 use outside::{StdSink, StdSource};
 use scalar_val::Steps;
+use serve::serve;
 use std::io::ErrorKind;
 use std::marker::Brand;
 use std::process::ExitCode;
@@ -17,6 +21,9 @@ const NO_MEMORY: u8 = 4;
 
 fn main(rt: HostRuntime) -> ExitCode {
     match words(&rt) {
+        Ok(words) if asks_to_serve(words.as_slice()) => {
+            ExitCode::from(serve(&rt, rt.alloc(), words.as_slice(), rt.reader()))
+        }
         Ok(words) => ExitCode::from(run::<Brand>(&rt, words.as_slice(), Blank::new(1))),
         // No command has a word that isn't UTF-8, and none has no word.
         Err(error) => match error.kind() {
@@ -35,7 +42,11 @@ fn words(rt: &HostRuntime) -> io::Result<Vec<String>> {
     Ok(words)
 }
 
-/// Runs the top call over the standard input and output. Nothing reads the counter of steps.
+fn asks_to_serve(words: &[String]) -> bool {
+    words.first().is_some_and(|word| word.as_str() == "serve")
+}
+
+/// Runs the top call of all other commands over the standard input and output. Nothing reads the counter of steps.
 fn run<L: Ledger>(rt: &HostRuntime, words: &[String], blank: Blank) -> u8
     requires name { blank.name ≡ L.name }
     requires parts { blank.parts ≡ L.parts }

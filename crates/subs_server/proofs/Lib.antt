@@ -1,0 +1,5 @@
+pub mod Porting
+pub mod Reading
+pub mod Starting
+pub mod Serving
+pub mod Working
