@@ -118,9 +118,12 @@ module _ {X : Type 0} (left written : X → Option (List ℕ)) (never_fails : X 
         → (all : List X) → coming ≡ Some all → (rest : List X) × (coming'' ≡ Some rest) × (all ≡ map conn_of (some.front ++ t ∷ []) ++ rest)
     more_conns some t accepts all told =
         let before = some.conns all told in
-        let one = accepted_one coming' coming'' t.conn accepts before.0 before.1 in
-        (one.0, one.1, before.2 ∙ ap (λ (l : List X). map conn_of some.front ++ l) one.2
-        ∙ sym (append_assoc (map conn_of some.front) (t.conn ∷ []) one.0) ∙ ap (λ (l : List X). l ++ one.0) (sym (map-append conn_of some.front (t ∷ []))))
+        let one = accepted_one coming' coming'' t.conn accepts before.0 before.1 in (
+          one.0,
+          one.1,
+          before.2 ∙ ap (λ (l : List X). map conn_of some.front ++ l) one.2
+              ∙ sym (append_assoc (map conn_of some.front) (t.conn ∷ []) one.0) ∙ ap (λ (l : List X). l ++ one.0) (sym (map-append conn_of some.front (t ∷ []))),
+        )
 
     more_did : (some : ServesSome left written never_fails coming coming' faults faults' p q) (t : Taken X) → Did q r t.calls → Did p r (flat_map calls_by (some.front ++ t ∷ []))
     more_did some t did = subst (Did p r) (ap (λ (l : List Call). flat_map calls_by some.front ++ l) (sym (append-nil t.calls)) ∙ sym (flat_map-append calls_by some.front (t ∷ []))) (did_then p q r (flat_map calls_by some.front) t.calls some.did did)
