@@ -1,7 +1,7 @@
 //! What a work does.
-ghost use Rattle.std.specs.Prelude.{◌≡◌, ◌<◌, false};
+ghost use Rattle.std.specs.Prelude.{◌≡◌, ◌<◌, ◌⊎◌, false, IfOk, IfErr};
 ghost use Rattle.connection_server.specs.Talks.{link_view};
-ghost use Rattle.subs_server.specs.Ports.{ServesPort};
+ghost use Rattle.subs_server.specs.Ports.{MayGoOn, ServedTo, ServesPort};
 ghost use Rattle.subs_server.specs.Works.{Suits, WorksAlone};
 
 use crate::task::{PortEnd, ServeWork, Task, TaskEnd, Worked};
@@ -38,6 +38,20 @@ fn poll_alone<R: Wait, C: Clock, G: Gate, L: Ledger>(
     poll_worker(
         rt, alloc, engine, pass, ticks, refetch_ms, clock, gate, &mut steps,
     )
+}
+
+/// The next connection to the commit port may be taken; or this is how serving the port ends.
+#[tactic(auto, using(crate::proofs::Porting::may_go_on))]
+fn port_end(end: CommitEnd) -> Result<(), PortEnd>
+    ensures goes_on { IfOk result (λ _. MayGoOn (ServedTo end)) }
+    ensures ends { IfErr result (λ e. ((end ≡ CommitEnd.Spent) × (e ≡ PortEnd.Spent))
+        ⊎ ((end ≡ CommitEnd.NoMemory) × (e ≡ PortEnd.NoMemory))) }
+{
+    match end {
+        CommitEnd::Spent => Err(PortEnd::Spent),
+        CommitEnd::NoMemory => Err(PortEnd::NoMemory),
+        _ => Ok(()),
+    }
 }
 
 impl<N, Q, C, G> Work for ServeWork<N, Q, C, G>
@@ -94,8 +108,8 @@ where
             }
             Task::Commits { mut from } => {
                 for _ in rt.forever() {
-                    let parts = match from.accept() {
-                        Accepted::Conn(conn) => conn.split(),
+                    let conn = match from.accept() {
+                        Accepted::Conn(conn) => conn,
                         Accepted::End => return Worked {
                             pass,
                             end: TaskEnd::Commits {
@@ -111,8 +125,24 @@ where
                             },
                         },
                     };
-                    let (mut source, mut sink) = match parts {
-                        Parts::Both(source, sink) => (source, sink),
+                    match conn.split() {
+                        Parts::Both(mut source, mut sink) => {
+                            let end = serve_commits(
+                                rt,
+                                alloc,
+                                &engine,
+                                &mut pass,
+                                &mut source,
+                                &mut sink,
+                            );
+                            match port_end(end) {
+                                Ok(()) => continue,
+                                Err(end) => return Worked {
+                                    pass,
+                                    end: TaskEnd::Commits { from, end },
+                                },
+                            }
+                        }
                         Parts::Failed => continue,
                         Parts::NoMemory => return Worked {
                             pass,
@@ -121,23 +151,6 @@ where
                                 end: PortEnd::NoMemory,
                             },
                         },
-                    };
-                    match serve_commits(rt, alloc, &engine, &mut pass, &mut source, &mut sink) {
-                        CommitEnd::Spent => return Worked {
-                            pass,
-                            end: TaskEnd::Commits {
-                                from,
-                                end: PortEnd::Spent,
-                            },
-                        },
-                        CommitEnd::NoMemory => return Worked {
-                            pass,
-                            end: TaskEnd::Commits {
-                                from,
-                                end: PortEnd::NoMemory,
-                            },
-                        },
-                        _ => {}
                     }
                 }
                 unreachable!()
