@@ -17,8 +17,9 @@ use tungstenite::{Callback, Error as SocketError, HandshakeError, WebSocketConfi
 /// The subprotocol, as the protocol `graphql-transport-ws` names it.
 const SUBPROTOCOL: &str = "graphql-transport-ws";
 
-/// The largest message that comes, in bytes.
-const MAX_MESSAGE: usize = 1_048_576;
+/// The largest message that comes, in bytes: twice what the runtime takes, so that it refuses a longer one itself, by
+/// its own close.
+const MAX_MESSAGE: usize = 2_097_152;
 
 /// How many bytes one read asks for. Each connection holds two buffers of this size.
 const READ_BUFFER: usize = 8192;

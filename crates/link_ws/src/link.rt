@@ -23,7 +23,7 @@ const CLOSE_IDLES: u32 = 20;
 ///
 /// `recv` answers `Idle` where the bell rang, where nothing came for 50 ms, or for 500 ms if nothing had come in the
 /// wait before either, after a ping or a pong, and in the middle of a long message; what came of a message is kept.
-/// Pings are answered, and so is the peer's close before `PeerClosed`. A message of more than 1,048,576 bytes, a text
+/// Pings are answered, and so is the peer's close before `PeerClosed`. A message of more than 2,097,152 bytes, a text
 /// that isn't UTF-8 and all else that RFC 6455 forbids end the link: the peer is sent a close with 1009, 1007 or 1002,
 /// and the answer is `Failed`. So is that of a `send` for which the peer has no room for 10 seconds.
 #[derive(Drop)]
