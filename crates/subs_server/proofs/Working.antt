@@ -1,4 +1,4 @@
--- A connection that is served over the link that it opened as.
+-- A connection that is served over the link that it opened as, and a port that is served.
 use Rattle.std.proofs.Common.{◌≡◌, sym, subst, ℕ, ◌≤◌, ◌⊎◌, Option, Some, List, length}
 use Rattle.outside.specs.declared.link.LinkItem.{LinkItem}
 use Rattle.outside.specs.declared.link.LinkOut.{LinkOut}
@@ -9,6 +9,11 @@ use Rattle.history_lock.specs.PassViews.{PassView}
 use Rattle.connection_server.specs.declared.end.End.{End}
 use Rattle.connection_server.specs.Talks.{LinkView, link_view}
 use Rattle.connection_server.specs.Sessions.{Refused, Session, Served}
+use Rattle.subs_server.specs.declared.task.PortEnd.{PortEnd}
+use Rattle.subs_server.specs.declared.task.Task.{Task}
+use Rattle.subs_server.specs.declared.task.Task.TheVariants as task
+use Rattle.subs_server.specs.declared.task.TaskEnd.TheVariants as ended
+use Rattle.subs_server.specs.Works.{Suits}
 
 tells_same : {T : Type 0} (before after : Option T) → openings.Tells before after → (told : T) → before ≡ Some told → after ≡ Some told
 tells_same before after tells told is = subst (λ o. openings.Tells o after) is tells
@@ -32,3 +37,10 @@ served_from conn p q coming sent faults k k' t t' e items things count s = recor
       (λ (n : ℕ). Refused conn (length q.seen) e s.made s.given s.outs s.times
       ⊎ Session conn (length q.seen) n k'.faults e s.made s.given s.outs s.times) count s.session;
 }
+
+-- serving the commit port suits the task that asks for it
+pub suits_commits : {N Q C G K S : Type 0} (conn_seen : N → LinkView) (link_seen : K → LinkView) (tells : C → List ℕ → Type 0) (ServesFrom : Q → Q → PassView Event Metadata → PassView Event Metadata → PortEnd → Type 0)
+    (p q : PassView Event Metadata) (t : Task N Q C G) (from from' : Q) (end : PortEnd) → t ≡ task.Commits from → ServesFrom from from' p q end
+    → Suits conn_seen link_seen tells {Q = Q} {G = G} {S = S} ServesFrom p q t (ended.Commits from' end)
+suits_commits {N} {Q} {C} {G} {K} {S} conn_seen link_seen tells ServesFrom p q t from from' end is serves =
+    subst (λ (x : Task N Q C G). Suits conn_seen link_seen tells {Q = Q} {G = G} {S = S} ServesFrom p q x (ended.Commits from' end)) (sym is) serves
