@@ -40,7 +40,7 @@ accepted_same None coming' a all told = absurd (cc)
 accepted_same (Some conns) coming' a all told = a ∙ told
 
 -- after each other end the next one may be taken
-may_go_on : (e : CommitEnd) → (e ≡ ended.Spent → ⊥) → (e ≡ ended.NoMemory → ⊥) → MayGoOn (ServedTo e)
+pub may_go_on : (e : CommitEnd) → (e ≡ ended.Spent → ⊥) → (e ≡ ended.NoMemory → ⊥) → MayGoOn (ServedTo e)
 may_go_on ended.Ended not_spent not_lacking = tt
 may_go_on ended.SourceFault not_spent not_lacking = tt
 may_go_on ended.SinkFault not_spent not_lacking = tt
@@ -55,19 +55,20 @@ module _ {X : Type 0} (left written : X → Option (List ℕ)) (never_fails : X 
       → IsHandled left written never_fails (record { conn = conn; before = p; after = q; calls = calls_of c.answered ++ c.over.calls; handled = ServedTo e })
   serves_by conn p q s s' k k' e c tl tw steady = record { source = s; source' = s'; sink = k; sink' = k'; tells_left = tl; tells_written = tw; commits = c; calls = refl; steady = steady }
 
-  pub takes_served : (conn : X) (p q : PassView Event Metadata) (s s' : SourceView) (k k' : SinkView) (e : CommitEnd) → (e ≡ ended.Spent → ⊥) → (e ≡ ended.NoMemory → ⊥) → Commits p q s s' k k' e → Tells (left conn) s.left → Tells (written conn) k.written → (never_fails conn → (e ≢ ended.SourceFault) × (e ≢ ended.SinkFault))
+  pub takes_served : (conn : X) (p q : PassView Event Metadata) (s s' : SourceView) (k k' : SinkView) (e : CommitEnd) → MayGoOn (ServedTo e) → Commits p q s s' k k' e → Tells (left conn) s.left → Tells (written conn) k.written
+      → (never_fails conn → (e ≢ ended.SourceFault) × (e ≢ ended.SinkFault))
       → TakesConn left written never_fails conn p q (Ok tt)
-  takes_served conn p q s s' k k' e not_spent not_lacking c tl tw steady = record {
+  takes_served conn p q s s' k k' e goes_on c tl tw steady = record {
     taken = record { conn = conn; before = p; after = q; calls = calls_of c.answered ++ c.over.calls; handled = ServedTo e };
     conn_is = refl;
     before = refl;
     after = refl;
     did = c.did;
     handled = serves_by conn p q s s' k k' e c tl tw steady;
-    goes_on = may_go_on e not_spent not_lacking;
+    goes_on = goes_on;
   }
 
-  pub takes_spent : (conn : X) (p q : PassView Event Metadata) (s s' : SourceView) (k k' : SinkView) → Commits p q s s' k k' ended.Spent → Tells (left conn) s.left → Tells (written conn) k.written
+  takes_spent : (conn : X) (p q : PassView Event Metadata) (s s' : SourceView) (k k' : SinkView) → Commits p q s s' k k' ended.Spent → Tells (left conn) s.left → Tells (written conn) k.written
       → TakesConn left written never_fails conn p q (Err port.Spent)
   takes_spent conn p q s s' k k' c tl tw = record {
     taken = record { conn = conn; before = p; after = q; calls = calls_of c.answered ++ c.over.calls; handled = ServedTo ended.Spent };
@@ -77,7 +78,7 @@ module _ {X : Type 0} (left written : X → Option (List ℕ)) (never_fails : X 
     ends = (refl, c.ends.0);
   }
 
-  pub takes_no_memory : (conn : X) (p q : PassView Event Metadata) (s s' : SourceView) (k k' : SinkView) → Commits p q s s' k k' ended.NoMemory → Tells (left conn) s.left → Tells (written conn) k.written
+  takes_no_memory : (conn : X) (p q : PassView Event Metadata) (s s' : SourceView) (k k' : SinkView) → Commits p q s s' k k' ended.NoMemory → Tells (left conn) s.left → Tells (written conn) k.written
       → TakesConn left written never_fails conn p q (Err port.NoMemory)
   takes_no_memory conn p q s s' k k' c tl tw = record {
     taken = record { conn = conn; before = p; after = q; calls = calls_of c.answered ++ c.over.calls; handled = ServedTo ended.NoMemory };
@@ -86,6 +87,16 @@ module _ {X : Type 0} (left written : X → Option (List ℕ)) (never_fails : X 
     handled = serves_by conn p q s s' k k' ended.NoMemory c tl tw (λ n. (λ e. absurd (cc), λ e. absurd (cc)));
     ends = inr refl;
   }
+
+  pub takes_last : (conn : X) (p q : PassView Event Metadata) (s s' : SourceView) (k k' : SinkView) (e : CommitEnd) (end : PortEnd) → ((e ≡ ended.Spent) × (end ≡ port.Spent)) ⊎ ((e ≡ ended.NoMemory) × (end ≡ port.NoMemory))
+      → Commits p q s s' k k' e → Tells (left conn) s.left → Tells (written conn) k.written
+      → TakesConn left written never_fails conn p q (Err end)
+  takes_last conn p q s s' k k' e end (inl is) c tl tw =
+      subst (λ (x : PortEnd). TakesConn left written never_fails conn p q (Err x)) (sym is.1)
+      (takes_spent conn p q s s' k k' (subst (λ (x : CommitEnd). Commits p q s s' k k' x) is.0 c) tl tw)
+  takes_last conn p q s s' k k' e end (inr is) c tl tw =
+      subst (λ (x : PortEnd). TakesConn left written never_fails conn p q (Err x)) (sym is.1)
+      (takes_no_memory conn p q s s' k k' (subst (λ (x : CommitEnd). Commits p q s s' k k' x) is.0 c) tl tw)
 
   pub takes_not_split : (conn : X) (p : PassView Event Metadata) → (left conn ≡ None) × (written conn ≡ None) → TakesConn left written never_fails conn p p (Ok tt)
   takes_not_split conn p untold = record {
@@ -118,9 +129,12 @@ module _ {X : Type 0} (left written : X → Option (List ℕ)) (never_fails : X 
         → (all : List X) → coming ≡ Some all → (rest : List X) × (coming'' ≡ Some rest) × (all ≡ map conn_of (some.front ++ t ∷ []) ++ rest)
     more_conns some t accepts all told =
         let before = some.conns all told in
-        let one = accepted_one coming' coming'' t.conn accepts before.0 before.1 in
-        (one.0, one.1, before.2 ∙ ap (λ (l : List X). map conn_of some.front ++ l) one.2
-        ∙ sym (append_assoc (map conn_of some.front) (t.conn ∷ []) one.0) ∙ ap (λ (l : List X). l ++ one.0) (sym (map-append conn_of some.front (t ∷ []))))
+        let one = accepted_one coming' coming'' t.conn accepts before.0 before.1 in (
+          one.0,
+          one.1,
+          before.2 ∙ ap (λ (l : List X). map conn_of some.front ++ l) one.2
+              ∙ sym (append_assoc (map conn_of some.front) (t.conn ∷ []) one.0) ∙ ap (λ (l : List X). l ++ one.0) (sym (map-append conn_of some.front (t ∷ []))),
+        )
 
     more_did : (some : ServesSome left written never_fails coming coming' faults faults' p q) (t : Taken X) → Did q r t.calls → Did p r (flat_map calls_by (some.front ++ t ∷ []))
     more_did some t did = subst (Did p r) (ap (λ (l : List Call). flat_map calls_by some.front ++ l) (sym (append-nil t.calls)) ∙ sym (flat_map-append calls_by some.front (t ∷ []))) (did_then p q r (flat_map calls_by some.front) t.calls some.did did)

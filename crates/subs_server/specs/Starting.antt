@@ -28,10 +28,10 @@ Listening port_seen asked sockets sockets' (Some commits) commits' (Err e) = ⊥
 
 -- the work has this task, and a pass of the same engine
 pub record IsWorkOf {N Q C G : Type 0} (p : PassView Event Metadata) (t : Task N Q C G) (w : ServeWork N Q C G) : Type 0
-    where
-  pub lock_is : w.pass.lock ≡ p.lock
-  pub meta_is : w.pass.basis ≡ p.basis
-  pub task_is : w.task ≡ t
+  where
+    pub lock_is : w.pass.lock ≡ p.lock
+    pub meta_is : w.pass.basis ≡ p.basis
+    pub task_is : w.task ≡ t
 
 -- one work was started
 pub record StartsOne {N Q C G : Type 0} (started started' : Option (List (ServeWork N Q C G))) (p : PassView Event Metadata)

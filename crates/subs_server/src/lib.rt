@@ -2,7 +2,6 @@
 #![tactic(auto)]
 
 mod main_call;
-mod port;
 mod read;
 mod start;
 mod task;

@@ -128,7 +128,12 @@ where
 {
     for worker in 0..workers {
         let ticks = worker == 0;
-        let task = Task::Poll { ticks, refetch_ms, clock, gate };
+        let task = Task::Poll {
+            ticks,
+            refetch_ms,
+            clock,
+            gate,
+        };
         match start_one(alloc, engine, pass, spawner, task) {
             Ok(()) => {}
             Err(end) => return Err(end),
@@ -169,7 +174,11 @@ where
     for numbered in 0..u32::MAX {
         match sockets.accept() {
             Accepted::Conn(from) => {
-                let task = Task::Conn { conn: numbered + 1, from, clock };
+                let task = Task::Conn {
+                    conn: numbered + 1,
+                    from,
+                    clock,
+                };
                 match start_one(alloc, engine, pass, spawner, task) {
                     Ok(()) => {}
                     Err(end) => return Err(end),
@@ -215,7 +224,9 @@ where
         (listener_view (L.coming sockets.new) (L.last_port sockets.new) (L.faults sockets.new))
         (P.started spawner.old) (P.started spawner.new) (P.faults spawner.old) (P.faults spawner.new) result }
 {
-    match start_workers(alloc, engine, pass, spawner, workers, refetch_ms, clock, gate) {
+    match start_workers(
+        alloc, engine, pass, spawner, workers, refetch_ms, clock, gate,
+    ) {
         Ok(()) => {}
         Err(end) => return Err(end),
     }
@@ -261,7 +272,9 @@ where
     let Ok(engine) = Arc::new(alloc, engine) else {
         return Err(StartEnd::NoMemory);
     };
-    start_over(alloc, &engine, &mut pass, workers, refetch_ms, sockets, from, spawner, clock, gate)
+    start_over(
+        alloc, &engine, &mut pass, workers, refetch_ms, sockets, from, spawner, clock, gate,
+    )
 }
 
 /// Listens on both ports, and starts all works.
@@ -297,7 +310,16 @@ where
         (P.faults spawner.old) (P.faults spawner.new) result }
 {
     match listen_both(&asked, sockets, commits) {
-        Ok(from) => start_works(alloc, asked.workers, meta, sockets, from, spawner, clock, gate),
+        Ok(from) => start_works(
+            alloc,
+            asked.workers,
+            meta,
+            sockets,
+            from,
+            spawner,
+            clock,
+            gate,
+        ),
         Err(end) => Err(end),
     }
 }

@@ -10,9 +10,15 @@ use subs_engine::{Engine, Pass, TakeFault};
 #[derive(Drop)]
 pub enum Task<N, Q, C, G> {
     /// Opens a connection, and serves it by this number.
-    Conn { conn: u32, from: N, clock: C },
+    Conn {
+        conn: u32,
+        from: N,
+        clock: C,
+    },
     /// Serves the connections of the commit port, one after the other.
-    Commits { from: Q },
+    Commits {
+        from: Q,
+    },
     /// Polls, and makes ticks where `ticks` is true, `refetch_ms` milliseconds apart.
     Poll {
         ticks: bool,
@@ -55,10 +61,7 @@ pub enum TaskEnd<K, Q, C, S> {
     /// The connection found no memory to open.
     NoMemory,
     Commits { from: Q, end: PortEnd },
-    Poll {
-        clock: C,
-        end: Result<S, TakeFault>,
-    },
+    Poll { clock: C, end: Result<S, TakeFault> },
 }
 
 /// What a work answers: its pass, and how its task ended.

@@ -1,19 +1,29 @@
-ghost use Rattle.std.specs.Prelude.{◌≡◌, false};
+mod asking;
+mod two_ends;
 
-use crate::{PortEnd, ServeWork, Task, TaskEnd, Worked, serve_main};
-use outside::{MemLink, MemListener, MemSink, MemSource, MemSpawner, SysClock, Work};
-use role_schema::Meta;
+use crate::{ServeWork, Task, serve_main};
+use outside::{MemLink, MemListener, MemSink, MemSource, MemSpawner, SysClock};
 use std::alloc::Global;
-use std::sync::{Arc, Wait};
+use std::sync::Wait;
 use std::test::Fail;
-use subs_engine::{Counts, Engine, Event, FreeGate, Pass, Reply};
+use subs_engine::FreeGate;
 
-const METADATA: &str = "version = 1
+const METADATA: &str = r#"version = 1
 [[tables]]
-name = \"user\"
-key = [\"id\"]
-columns = [{ name = \"id\", type = \"int\" }, { name = \"name\", type = \"text\", nullable = true }]
-";
+name = "user"
+key = ["id"]
+columns = [{ name = "id", type = "int" }, { name = "name", type = "text", nullable = true }]
+array = [{ name = "posts", table = "post", from = ["id"], to = ["author_id"] }]
+select = [{ role = "reader", columns = ["id", "name"], filter = "{}" }]
+[[tables]]
+name = "post"
+key = ["id"]
+columns = [{ name = "id", type = "int" }, { name = "author_id", type = "int", nullable = true },
+  { name = "title", type = "text" }, { name = "note", type = "text", nullable = true }]
+object = [{ name = "author", table = "user", from = ["author_id"], to = ["id"] }]
+select = [{ role = "reader", columns = ["id", "author_id", "title"],
+  filter = '{"author_id":{"_eq":"X-Hasura-User-Id"}}' }]
+"#;
 
 const VALID: &str = "serve --port 8080 --commit-port 8081";
 
@@ -36,7 +46,11 @@ fn lines_of(alloc: Global, started: &[Started]) -> Result<String, Fail> {
         let line = match &work.task {
             Task::Conn { conn, .. } => format!(in alloc; "conn {conn}\n")?,
             Task::Commits { .. } => format!(in alloc; "commits\n")?,
-            Task::Poll { ticks, refetch_ms, .. } => format!(in alloc; "poll {ticks} {refetch_ms}\n")?,
+            Task::Poll {
+                ticks,
+                refetch_ms,
+                ..
+            } => format!(in alloc; "poll {ticks} {refetch_ms}\n")?,
         };
         lines.push_str(line.as_str())?;
     }
@@ -81,12 +95,34 @@ fn works_are_started_in_their_order(rt: HostRuntime) -> Result<(), Fail> {
     let alloc = rt.alloc();
     let clock = SysClock::new(rt);
     let polls = "poll true 1000\npoll false 1000\n";
-    let (status, lines) = serve(&rt, alloc, clock, VALID, 0, Vec::new(alloc), Vec::new(alloc))?;
+    let (status, lines) = serve(
+        &rt,
+        alloc,
+        clock,
+        VALID,
+        0,
+        Vec::new(alloc),
+        Vec::new(alloc),
+    )?;
     assert_eq!(&rt; status, 0);
-    assert_eq!(&rt; lines.as_str(), format!(in alloc; "{polls}commits\n")?.as_str());
-    let (status, lines) = serve(&rt, alloc, clock, VALID, 1, Vec::new(alloc), Vec::new(alloc))?;
+    assert_eq!(&rt;
+        lines.as_str(),
+        format!(in alloc; "{polls}commits\n")?.as_str()
+    );
+    let (status, lines) = serve(
+        &rt,
+        alloc,
+        clock,
+        VALID,
+        1,
+        Vec::new(alloc),
+        Vec::new(alloc),
+    )?;
     assert_eq!(&rt; status, 0);
-    assert_eq!(&rt; lines.as_str(), format!(in alloc; "{polls}commits\nconn 1\n")?.as_str());
+    assert_eq!(&rt;
+        lines.as_str(),
+        format!(in alloc; "{polls}commits\nconn 1\n")?.as_str()
+    );
     Ok(())
 }
 
@@ -97,53 +133,25 @@ fn each_fault_has_its_status(rt: HostRuntime) -> Result<(), Fail> {
     let zero = "serve --port 0 --commit-port 1";
     let (status, lines) = serve(&rt, alloc, clock, zero, 0, Vec::new(alloc), Vec::new(alloc))?;
     assert_eq!(&rt; (status, lines.as_str()), (5, ""));
-    let (status, lines) = serve(&rt, alloc, clock, VALID, 0, vec![in alloc; 1]?, Vec::new(alloc))?;
-    assert_eq!(&rt; (status, lines.as_str()), (6, ""));
-    let (status, lines) = serve(&rt, alloc, clock, VALID, 0, Vec::new(alloc), vec![in alloc; 1]?)?;
-    assert_eq!(&rt; (status, lines.as_str()), (7, ""));
-    Ok(())
-}
-
-/// A connection to the commit port that sends these bytes.
-fn pair(alloc: Global, bytes: &str) -> Result<Pair, Fail> {
-    let source = MemSource::new(bytes.as_bytes().to_vec(alloc)?, 7, Vec::new(alloc));
-    Ok((source, MemSink::new(alloc, Vec::new(alloc))))
-}
-
-fn version<R: Wait>(rt: &R, alloc: Global, engine: &Engine, pass: &mut Pass) -> Result<u64, Fail>
-    requires { (pass.old.lock ≡ engine.now) × (pass.old.has_turn ≡ false) }
-{
-    match engine.call(rt, alloc, pass, Event::Report) {
-        Ok(Reply::Report(Counts { version, .. })) => Ok(version),
-        _ => Err(Fail::from("no report")),
-    }
-}
-
-#[test]
-fn the_commit_port_serves_one_connection_after_the_other(rt: HostRuntime) -> Result<(), Fail> {
-    let alloc = rt.alloc();
-    let Ok(meta) = Meta::read(alloc, METADATA.as_bytes()) else {
-        return Err(Fail::from("the metadata isn't read"));
-    };
-    let (engine, mut pass) = Engine::new(alloc, meta)?;
-    let own = engine.split(&mut pass)?;
-    let Ok(engine) = Arc::new(alloc, engine) else {
-        return Err(Fail::from("no memory"));
-    };
-    let Ok(shared) = Arc::try_clone(&engine) else {
-        return Err(Fail::from("no memory"));
-    };
-    let mut conns = Vec::new(alloc);
-    conns.push(pair(alloc, "[]\nx\n[")?)?;
-    conns.push(pair(alloc, "[]\n")?)?;
-    let work: Started = ServeWork {
+    let (status, lines) = serve(
+        &rt,
         alloc,
-        engine: shared,
-        pass: own,
-        task: Task::Commits { from: MemListener::new(conns, Vec::new(alloc)) },
-    };
-    let Worked { pass: _own, end } = work.run(&rt);
-    assert!(&rt; matches!(end, TaskEnd::Commits { end: PortEnd::Ended, .. }));
-    assert_eq!(&rt; version(&rt, alloc, &engine, &mut pass)?, 2);
+        clock,
+        VALID,
+        0,
+        vec![in alloc; 1]?,
+        Vec::new(alloc),
+    )?;
+    assert_eq!(&rt; (status, lines.as_str()), (6, ""));
+    let (status, lines) = serve(
+        &rt,
+        alloc,
+        clock,
+        VALID,
+        0,
+        Vec::new(alloc),
+        vec![in alloc; 1]?,
+    )?;
+    assert_eq!(&rt; (status, lines.as_str()), (7, ""));
     Ok(())
 }

@@ -5,7 +5,7 @@ use Rattle.subs_server.proofs.main_call.serve_main.Goals as goal
 pub returns-in-Err-Usage-clause-words : goal.returns-in-Err-Usage-clause-words
 returns-in-Err-Usage-clause-words g c =
     λ five.
-      never_valid _ c.read_words.result c.in-Err-Usage.field-0 c.in-Err-Usage.is c.read_words.ensures.valid
+    never_valid _ c.read_words.result c.in-Err-Usage.field-0 c.in-Err-Usage.is c.read_words.ensures.valid
 
 pub returns-in-Err-Fault-clause-works : goal.returns-in-Err-Fault-clause-works
 returns-in-Err-Fault-clause-works g c =

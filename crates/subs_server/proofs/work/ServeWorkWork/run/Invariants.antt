@@ -1,5 +1,5 @@
 use Rattle.subs_server.specs.Ports.{ServesSome}
-use Rattle.subs_server.proofs.port.serve_port.Given as goal
+use Rattle.subs_server.proofs.work.ServeWorkWork.run.Given as goal
 
 abbrev pub invariant-loop : goal.invariant-loop
 invariant-loop g l =
