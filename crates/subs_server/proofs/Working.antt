@@ -1,4 +1,4 @@
--- A connection that is served over the link that it opened as, and a port that is served.
+-- A connection that is served over the link that it opened as.
 use Rattle.std.proofs.Common.{◌≡◌, sym, subst, ℕ, ◌≤◌, ◌⊎◌, Option, Some, List, length}
 use Rattle.outside.specs.declared.link.LinkItem.{LinkItem}
 use Rattle.outside.specs.declared.link.LinkOut.{LinkOut}
@@ -12,7 +12,9 @@ use Rattle.connection_server.specs.Sessions.{Refused, Session, Served}
 use Rattle.subs_server.specs.declared.task.PortEnd.{PortEnd}
 use Rattle.subs_server.specs.declared.task.Task.{Task}
 use Rattle.subs_server.specs.declared.task.Task.TheVariants as task
+use Rattle.subs_server.specs.declared.task.TaskEnd.{TaskEnd}
 use Rattle.subs_server.specs.declared.task.TaskEnd.TheVariants as ended
+use Rattle.subs_server.specs.Ports.{ServesPort}
 use Rattle.subs_server.specs.Works.{Suits}
 
 tells_same : {T : Type 0} (before after : Option T) → openings.Tells before after → (told : T) → before ≡ Some told → after ≡ Some told
@@ -38,9 +40,16 @@ served_from conn p q coming sent faults k k' t t' e items things count s = recor
       ⊎ Session conn (length q.seen) n k'.faults e s.made s.given s.outs s.times) count s.session;
 }
 
--- serving the commit port suits the task that asks for it
-pub suits_commits : {N Q C G K S : Type 0} (conn_seen : N → LinkView) (link_seen : K → LinkView) (tells : C → List ℕ → Type 0) (ServesFrom : Q → Q → PassView Event Metadata → PassView Event Metadata → PortEnd → Type 0)
-    (p q : PassView Event Metadata) (t : Task N Q C G) (from from' : Q) (end : PortEnd) → t ≡ task.Commits from → ServesFrom from from' p q end
-    → Suits conn_seen link_seen tells {Q = Q} {G = G} {S = S} ServesFrom p q t (ended.Commits from' end)
-suits_commits {N} {Q} {C} {G} {K} {S} conn_seen link_seen tells ServesFrom p q t from from' end is serves =
-    subst (λ (x : Task N Q C G). Suits conn_seen link_seen tells {Q = Q} {G = G} {S = S} ServesFrom p q x (ended.Commits from' end)) (sym is) serves
+-- a task of the commit port was done as its listener was served
+pub port_suits : {N C K Q G X : Type 0} (S : Type 0) (conn_seen : N → LinkView) (link_seen : K → LinkView)
+    (tells : C → List ℕ → Type 0) (left written : X → Option (List ℕ)) (never_fails : X → Type 0)
+    (coming : Q → Option (List X)) (faults : Q → ℕ) (p q : PassView Event Metadata) (t : Task N Q C G) (from from' : Q)
+    (e : PortEnd) → t ≡ task.Commits from
+    → ServesPort left written never_fails (coming from) (coming from') (faults from) (faults from') p q e
+    → Suits conn_seen link_seen tells {S = S}
+    (λ (a b : Q) (r s : PassView Event Metadata) (end : PortEnd). ServesPort left written never_fails (coming a) (coming b) (faults a) (faults b) r s end)
+    p q t (ended.Commits from' e)
+port_suits {N} {C} {K} {Q} {G} {X} S conn_seen link_seen tells left written never_fails coming faults p q t from from' e is s = subst
+    (λ (given : Task N Q C G). Suits conn_seen link_seen tells {S = S}
+    (λ (a b : Q) (r s : PassView Event Metadata) (end : PortEnd). ServesPort left written never_fails (coming a) (coming b) (faults a) (faults b) r s end)
+    p q given (ended.Commits from' e)) (sym is) s

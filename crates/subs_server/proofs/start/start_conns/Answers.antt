@@ -12,10 +12,10 @@ returns-in-Err g c =
     (listener_view (g.L.Listener.coming c.accept.new.self) (g.L.Listener.last_port c.accept.new.self)
     (g.L.Listener.faults c.accept.new.self))
     (g.P.Spawner.started c.args.spawner.now) (g.P.Spawner.started c.loop-numbered.spawner)
-    (g.P.Spawner.started c.start_one.new.spawner) c.loop-numbered.numbered c.loop-numbered.invariant.1.0
+    (g.P.Spawner.started c.start_one.new.spawner) c.loop-numbered.numbered c.loop-numbered.invariant.1
     c.accept.ensures.last_port c.accept.ensures.later c.in-Conn.from (g.P.Spawner.faults c.args.spawner.now)
     (g.P.Spawner.faults c.loop-numbered.spawner) (g.P.Spawner.faults c.start_one.new.spawner) c.in-Err.end
-    c.loop-numbered.invariant.1.1 c.in-Conn.ensures.coming c.in-Err.ensures.starts
+    c.loop-numbered.invariant.2 c.in-Conn.ensures.coming c.in-Err.ensures.starts
 
 pub returns-in-Failed : goal.returns-in-Failed
 returns-in-Failed g c =
@@ -27,6 +27,6 @@ returns-in-Failed g c =
     (listener_view (g.L.Listener.coming c.accept.new.self) (g.L.Listener.last_port c.accept.new.self)
     (g.L.Listener.faults c.accept.new.self))
     (g.P.Spawner.started c.args.spawner.now) (g.P.Spawner.started c.loop-numbered.spawner)
-    (g.P.Spawner.started c.loop-numbered.spawner) c.loop-numbered.numbered c.loop-numbered.invariant.1.0
+    (g.P.Spawner.started c.loop-numbered.spawner) c.loop-numbered.numbered c.loop-numbered.invariant.1
     c.accept.ensures.last_port c.accept.ensures.later (g.P.Spawner.faults c.args.spawner.now)
     (g.P.Spawner.faults c.loop-numbered.spawner) (c.accept.ensures.failed c.in-Failed.is) c.in-Failed.ensures.coming

@@ -8,4 +8,4 @@ returns-in-Err-clause-starts g c =
     (g.P.Spawner.started c.loop-worker.spawner) (g.P.Spawner.started c.start_one.new.spawner) c.loop-worker.worker
     c.args.workers (g.P.Spawner.faults c.args.spawner.now) (g.P.Spawner.faults c.loop-worker.spawner)
     (g.P.Spawner.faults c.start_one.new.spawner) c.in-Err.end (omega (arith, c.loop-worker-test.true))
-    c.loop-worker.invariant.1.1 c.loop-worker.invariant.1.0 c.in-Err.ensures.starts
+    c.loop-worker.invariant.2 c.loop-worker.invariant.1 c.in-Err.ensures.starts

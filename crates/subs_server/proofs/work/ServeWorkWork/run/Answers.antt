@@ -1,5 +1,6 @@
+use Rattle.subs_server.specs.declared.task.PortEnd.TheVariants.{NoMemory}
+use Rattle.subs_server.proofs.Working.{port_suits}
 use Rattle.subs_server.proofs.Porting.{takes_served, takes_last, takes_not_split, takes_no_parts, serves_more, serves_last}
-use Rattle.subs_server.proofs.Working.{suits_commits}
 use Rattle.subs_server.proofs.work.ServeWorkWork.run.Goals as goal
 
 pub loop-preserved-in-Ok : goal.loop-preserved-in-Ok
@@ -27,8 +28,10 @@ loop-preserved g c =
 
 pub returns-in-Err : goal.returns-in-Err
 returns-in-Err g c =
-    suits_commits _ _ _ _ _ _ _ c.in-Commits.from _ _ c.in-Commits.is
-    (serves_last g.Q.Conn.Splits.left g.Q.Conn.Splits.written g.Q.Conn.Splits.never_fails
+    port_suits _ _ _ _ g.Q.Conn.Splits.left g.Q.Conn.Splits.written g.Q.Conn.Splits.never_fails
+    g.Q.Listener.coming g.Q.Listener.faults c.args.self.pass c.serve_commits-end.new.pass _ c.in-Commits.from c.accept.new.self
+    c.in-Err.end c.in-Commits.is (
+    serves_last g.Q.Conn.Splits.left g.Q.Conn.Splits.written g.Q.Conn.Splits.never_fails
     (g.Q.Listener.coming c.in-Commits.from) (g.Q.Listener.coming c.loop.from) (g.Q.Listener.coming c.accept.new.self)
     (g.Q.Listener.faults c.in-Commits.from) (g.Q.Listener.faults c.loop.from) (g.Q.Listener.faults c.accept.new.self)
     c.args.self.pass c.loop.pass c.serve_commits-end.new.pass c.in-Conn-accept.conn c.in-Err.end c.loop.invariant
@@ -39,8 +42,10 @@ returns-in-Err g c =
 
 pub returns-in-NoMemory-split : goal.returns-in-NoMemory-split
 returns-in-NoMemory-split g c =
-    suits_commits _ _ _ _ _ _ _ c.in-Commits.from _ _ c.in-Commits.is
-    (serves_last g.Q.Conn.Splits.left g.Q.Conn.Splits.written g.Q.Conn.Splits.never_fails
+    port_suits _ _ _ _ g.Q.Conn.Splits.left g.Q.Conn.Splits.written g.Q.Conn.Splits.never_fails
+    g.Q.Listener.coming g.Q.Listener.faults c.args.self.pass c.loop.pass _ c.in-Commits.from c.accept.new.self
+    NoMemory c.in-Commits.is (
+    serves_last g.Q.Conn.Splits.left g.Q.Conn.Splits.written g.Q.Conn.Splits.never_fails
     (g.Q.Listener.coming c.in-Commits.from) (g.Q.Listener.coming c.loop.from) (g.Q.Listener.coming c.accept.new.self)
     (g.Q.Listener.faults c.in-Commits.from) (g.Q.Listener.faults c.loop.from) (g.Q.Listener.faults c.accept.new.self)
     c.args.self.pass c.loop.pass c.loop.pass c.in-Conn-accept.conn _ c.loop.invariant
