@@ -13,7 +13,9 @@ const MANY: usize = 80;
 
 /// How many bytes come before the read of a number fails.
 fn came(read: usize) -> usize {
-    SCRIPT.len().min(read.saturating_sub(1).saturating_mul(PIECE))
+    SCRIPT
+        .len()
+        .min(read.saturating_sub(1).saturating_mul(PIECE))
 }
 
 /// How many reads there are: those of all pieces, and the one that finds the end.

@@ -26,7 +26,7 @@ const SAID: [&str; 3] = [
 
 /// How many texts were sent before the call of each number fails: the first text, its answer, the second, the third, its
 /// answer, and the close. The call after these doesn't come.
-const SENT: [usize; 7] = [0, 0, 1, 1, 1, 1, 2];
+const SENT: [usize; 7] = [0, 0, 1, 1, 1, 2, 2];
 
 fn start(alloc: Global) -> Result<(Engine, Pass), Fail>
     ensures { IfOk result (λ started. (started.1.lock ≡ started.0) × (started.1.has_turn ≡ false)) }
@@ -46,12 +46,7 @@ fn texts(alloc: Global) -> Result<Vec<LinkItem>, Fail> {
 }
 
 /// What there is, as a pass sees it that serves no connection.
-fn counted<R: Wait>(
-    rt: &R,
-    alloc: Global,
-    engine: &Engine,
-    pass: &mut Pass,
-) -> Result<Counts, Fail>
+fn counted<R: Wait>(rt: &R, alloc: Global, engine: &Engine, pass: &mut Pass) -> Result<Counts, Fail>
     requires { (pass.old.lock ≡ engine.now) × (pass.old.has_turn ≡ false) }
 {
     match engine.call(rt, alloc, pass, Event::Report) {
@@ -84,7 +79,13 @@ fn a_link_that_fails_at_any_call_leaves_nothing(rt: HostRuntime) -> Result<(), F
         assert_eq!(&rt; end == End::LinkFault, call <= 6);
         assert_eq!(&rt; end == End::PeerClosed, call > 6);
         assert_eq!(&rt; sent, wanted);
-        let Counts { connections, live, due, jobs, version: _ } = counts;
+        let Counts {
+            connections,
+            live,
+            due,
+            jobs,
+            version: _,
+        } = counts;
         assert_eq!(&rt; (connections, live, due, jobs), (0, 0, 0, 0));
     }
     Ok(())
