@@ -72,9 +72,8 @@ fn served<R: Wait>(rt: &R, alloc: Global, call: u64) -> Result<(End, usize, Coun
 #[test]
 fn a_link_that_fails_at_any_call_leaves_nothing(rt: HostRuntime) -> Result<(), Fail> {
     let alloc = rt.alloc();
-    let mut call = 0;
-    for wanted in SENT {
-        call += 1;
+    for place in 0..SENT.len() {
+        let (call, wanted) = (place as u64 + 1, SENT[place]);
         let (end, sent, counts) = served(&rt, alloc, call)?;
         assert_eq!(&rt; end == End::LinkFault, call <= 6);
         assert_eq!(&rt; end == End::PeerClosed, call > 6);
