@@ -1,10 +1,8 @@
 """What the scripts of this folder share: the worked scripts, and running the program with its time and memory."""
-import os
 import pathlib
 import subprocess
 import sys
 import tempfile
-import time
 
 TOP = pathlib.Path(__file__).resolve().parent.parent
 
@@ -35,19 +33,21 @@ def program():
     path = pathlib.Path(sys.argv[1]) if len(sys.argv) > 1 else TOP / 'crates/subs_cli/out/subs_cli'
     if not path.exists():
         sys.exit('%s is missing: build it by ./subs, or name it' % path)
-    return str(path.resolve())
+    return [str(path.resolve())]
 
 
-def run(command, script, env=None, most=600):
-    """Status, output, seconds, and the most memory in KiB (no less than this process had) of a run over a script."""
-    with tempfile.TemporaryFile() as given, tempfile.TemporaryFile() as written:
-        for part in [script] if isinstance(script, bytes) else script:
-            given.write(part)
+def run(command, script, env=None):
+    """Status and output of a run over a script."""
+    with tempfile.TemporaryFile() as given:
+        given.write(script)
         given.seek(0)
-        begun = time.monotonic()
-        child = subprocess.Popen([command, 'run'], stdin=given, stdout=written, env=env)
-        _, status, used = os.wait4(child.pid, 0)
-        child.returncode = os.waitstatus_to_exitcode(status)
-        seconds = time.monotonic() - begun
-        written.seek(0)
-        return child.returncode, written.read(), seconds, used.ru_maxrss
+        done = subprocess.run([*command, 'run'], stdin=given, stdout=subprocess.PIPE, env=env)
+        return done.returncode, done.stdout
+
+
+def measured(command, script):
+    """Status, output, seconds and the most memory in KiB of a run over a script, by the program `time`."""
+    with tempfile.NamedTemporaryFile('r') as used:
+        status, written = run(['/usr/bin/time', '-q', '-f', '%e %M', '-o', used.name, *command], script)
+        seconds, memory = used.read().split()
+        return status, written, float(seconds), int(memory)

@@ -24,9 +24,9 @@ const SAID: [&str; 3] = [
     r#"{"type":"ping"}"#,
 ];
 
-/// How many texts were sent before the call of each number fails: the first text, its answer, the second, the third, its
-/// answer, and the close. The call after these doesn't come.
-const SENT: [usize; 7] = [0, 0, 1, 1, 1, 2, 2];
+/// The numbers of calls, each with how many texts were sent where it fails: that of the first text, its answer, the second,
+/// the third, its answer, and the close. The last one doesn't come.
+const SENT: [(u64, usize); 7] = [(1, 0), (2, 0), (3, 1), (4, 1), (5, 1), (6, 2), (7, 2)];
 
 fn start(alloc: Global) -> Result<(Engine, Pass), Fail>
     ensures { IfOk result (λ started. (started.1.lock ≡ started.0) × (started.1.has_turn ≡ false)) }
@@ -72,8 +72,7 @@ fn served<R: Wait>(rt: &R, alloc: Global, call: u64) -> Result<(End, usize, Coun
 #[test]
 fn a_link_that_fails_at_any_call_leaves_nothing(rt: HostRuntime) -> Result<(), Fail> {
     let alloc = rt.alloc();
-    for place in 0..SENT.len() {
-        let (call, wanted) = (place as u64 + 1, SENT[place]);
+    for (call, wanted) in SENT {
         let (end, sent, counts) = served(&rt, alloc, call)?;
         assert_eq!(&rt; end == End::LinkFault, call <= 6);
         assert_eq!(&rt; end == End::PeerClosed, call > 6);
