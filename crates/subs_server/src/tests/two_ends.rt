@@ -1,5 +1,5 @@
 //! Both ends in one process: a client, and the works that serve it.
-ghost use Rattle.std.specs.Prelude.{◌≡◌, None};
+ghost use Rattle.std.specs.Prelude.{◌≢◌, None};
 
 use crate::tests::asking::{Beside, Doing, OneRun, beside, commits, start};
 use crate::{End, Task, serve_conn};
@@ -41,7 +41,9 @@ struct Client<R> {
 }
 
 impl<R> Client<R> {
-    fn hear(&mut self, line: &[u8]) -> Sent {
+    fn hear(&mut self, line: &[u8]) -> Sent
+        ensures { result ≢ Sent.Failed }
+    {
         if self.heard.extend_from_slice(line).is_err() || self.heard.push(b'\n').is_err() {
             return Sent::NoMemory;
         }
