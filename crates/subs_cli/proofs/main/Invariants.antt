@@ -2,4 +2,4 @@ use Rattle.subs_cli.proofs.main.Given as goal
 
 -- the ledger is the one that the blank stands for
 abbrev pub ghosts-run : goal.ghosts-run
-ghosts-run a l = record { name = a.blank.name; parts = a.blank.parts }
+ghosts-run t a = record { name = a.blank.name; parts = a.blank.parts }
