@@ -1,9 +1,8 @@
 -- Connections to the commit port, one after the other.
-use Rattle.std.proofs.Common.{◌≡◌, ◌≢◌, ◌∙◌, sym, ap, subst, refl, ℕ, ◌+◌, ◌≤◌, ◌^◌, ◌⊎◌, inl, inr, Option, Some, None, Result, Ok, Err, List, [], ◌∷◌, ◌++◌, length, map, arith, append_assoc, append-nil}
+use Rattle.std.proofs.Common.{◌≡◌, ◌≢◌, ◌∙◌, sym, ap, subst, refl, ℕ, ◌≤◌, ◌⊎◌, inl, inr, Option, Some, None, Ok, Err, List, [], ◌∷◌, ◌++◌, length, map, arith, append_assoc, append-nil}
 use Rattle.std.specs.List.{AllByRecursion, flat_map}
 use Rattle.std.proofs.lemmas.List.{map-append}
 use Rattle.std.proofs.lemmas.Grind.{flat_map-append}
-use Rattle.outside.specs.declared.listener.Accepted.{Accepted}
 use Rattle.outside.specs.declared.listener.Accepted.TheVariants as accepted
 use Rattle.outside.specs.Ends.{Rose}
 use Rattle.outside.specs.Listeners.{Accepts}
@@ -19,7 +18,7 @@ use Rattle.commit_server.specs.Answers.{calls_of}
 use Rattle.commit_server.specs.Commits.{SourceView, SinkView, Commits}
 use Rattle.subs_server.specs.declared.task.PortEnd.{PortEnd}
 use Rattle.subs_server.specs.declared.task.PortEnd.TheVariants as port
-use Rattle.subs_server.specs.Ports.{Handled, NotSplit, NoParts, ServedTo, Taken, conn_of, calls_by, GoesOn, MayGoOn, EndsBy, Serves, IsHandled, ServesPort, TakesOn, TakesLast, IsEndBy, TakesConn, ServesSome}
+use Rattle.subs_server.specs.Ports.{NotSplit, NoParts, ServedTo, Taken, conn_of, calls_by, GoesOn, MayGoOn, EndsBy, IsHandled, ServesPort, IsEndBy, TakesConn, ServesSome}
 
 all_append : {Y : Type 0} (P : Y → Type 0) (xs ys : List Y) → AllByRecursion P xs → AllByRecursion P ys → AllByRecursion P (xs ++ ys)
 all_append P [] ys a b = b

@@ -1,5 +1,5 @@
 -- Metadata, read piece by piece.
-use Rattle.std.proofs.Common.{◌≡◌, ◌∙◌, sym, ap, subst, ℕ, ◌+◌, ◌≤◌, ◌<◌, inl, inr, Option, Some, List, [], ◌++◌, length, take, arith}
+use Rattle.std.proofs.Common.{◌≡◌, ◌∙◌, sym, ap, subst, ℕ, ◌≤◌, ◌<◌, inl, inr, Option, List, [], ◌++◌, length, take, arith}
 use Rattle.outside.specs.Ends.{Rose, Takes}
 use Rattle.outside.specs.declared.source.Got.TheVariants as got
 use Rattle.commit_server.specs.Commits.{SourceView, Reads}

@@ -1,5 +1,5 @@
 -- The call that starts the server's works.
-use Rattle.std.proofs.Common.{◌≡◌, ◌≢◌, ◌∙◌, sym, ap, subst, refl, ℕ, ◌+◌, ◌≤◌, ◌⊎◌, inl, inr, Bool, true, Option, Some, None, Result, Ok, Err, List, [], ◌∷◌, ◌++◌, length, arith}
+use Rattle.std.proofs.Common.{◌≡◌, ◌≢◌, ◌∙◌, sym, subst, refl, ℕ, ◌≤◌, ◌⊎◌, inl, inr, Bool, true, Option, Some, None, Result, Ok, Err, List, [], arith}
 use Rattle.std.specs.Prelude.{IsSome}
 use Rattle.std.proofs.lemmas.Bool.{false≢true}
 use Rattle.outside.specs.Ends.{Rose}
@@ -13,8 +13,8 @@ use Rattle.serve_words.specs.Words.{IsValid}
 use Rattle.subs_server.specs.declared.task.ServeWork.{ServeWork}
 use Rattle.subs_server.specs.declared.start.StartEnd.{StartEnd}
 use Rattle.subs_server.specs.declared.start.StartEnd.TheVariants as end
-use Rattle.subs_server.specs.Mains.{Planned, ListenerView, ListensOn, Gives, Held, Starts, StartsSome, StartsWorks, Told, IsAll, IfPort, LeftFailed, AreValid, HasFault}
-use Rattle.subs_server.specs.Starting.{Listening, Gave, IsNone, IsWhole, IsCaused, IsCausedBy, HasCause, ArePlanned, WorksFrom, StartsPlanned, StartsAs}
+use Rattle.subs_server.specs.Mains.{Planned, ListenerView, ListensOn, Gives, Held, StartsSome, StartsWorks, IsAll, IfPort, LeftFailed, AreValid, HasFault}
+use Rattle.subs_server.specs.Starting.{Listening, Gave, IsNone, IsWhole, IsCausedBy, HasCause, ArePlanned, WorksFrom, StartsPlanned, StartsAs}
 use Rattle.subs_server.proofs.Starting.{told_nothing}
 
 -- ---- listening

@@ -1,24 +1,23 @@
 -- Works that are started, one after the other.
-use Rattle.std.proofs.Common.{◌≡◌, ◌≢◌, ◌∙◌, sym, ap, subst, refl, ℕ, zero, suc, ◌+◌, ◌-◌, ◌<◌, ◌≤◌, ◌==◌, ◌⊎◌, inl, inr, Bool, true, false, Option, Some, None, Result, Ok, Err, List, [], ◌∷◌, ◌++◌, length, arith, append_assoc, append-nil}
+use Rattle.std.proofs.Common.{◌≡◌, ◌∙◌, sym, ap, subst, refl, ℕ, zero, suc, ◌+◌, ◌-◌, ◌≤◌, ◌==◌, inl, inr, Bool, true, false, Option, Some, None, Result, Ok, Err, List, [], ◌∷◌, ◌++◌, length, arith, append_assoc, append-nil}
 use Rattle.std.specs.Prelude.{replicate}
 use Rattle.std.specs.List.{AllZip}
 use Rattle.std.proofs.lemmas.Bool.Decides.{nat_tests}
 use Rattle.std.proofs.lemmas.List.{length-append}
-use Rattle.outside.specs.declared.listener.Accepted.{Accepted}
 use Rattle.outside.specs.declared.listener.Accepted.TheVariants as accepted
 use Rattle.outside.specs.Ends.{Rose}
 use Rattle.outside.specs.Listeners.{Accepts}
 use Rattle.outside.specs.Works as works
 use Rattle.role_model.specs.declared.metadata.Metadata.{Metadata}
 use Rattle.machine.specs.State.{Event}
-use Rattle.history_lock.specs.PassViews.{LockId, PassView}
+use Rattle.history_lock.specs.PassViews.{PassView}
 use Rattle.subs_server.specs.declared.task.Task.{Task}
 use Rattle.subs_server.specs.declared.task.Task.TheVariants as task
 use Rattle.subs_server.specs.declared.task.ServeWork.{ServeWork}
 use Rattle.subs_server.specs.declared.start.StartEnd.{StartEnd}
 use Rattle.subs_server.specs.declared.start.StartEnd.TheVariants as end
-use Rattle.subs_server.specs.Mains.{Planned, Polls, TakesCommits, Connects, polls, connections, planned, ListenerView, Fits, task_of, Told, IsAll, most_connections}
-use Rattle.subs_server.specs.Starting.{IsWorkOf, StartsOne, StartsNone, Begins, BeginsPart, BeginsPolls, Gave, IsCaused, ServesSome, ServesCounted, ServesAll, ServesPart, ServesConns, ArePlanned, WorksFrom}
+use Rattle.subs_server.specs.Mains.{Planned, Polls, TakesCommits, Connects, polls, connections, planned, ListenerView, Fits, task_of, Told, most_connections}
+use Rattle.subs_server.specs.Starting.{StartsOne, StartsNone, Begins, BeginsPart, BeginsPolls, Gave, IsCaused, ServesCounted, ServesConns, WorksFrom}
 use Rattle.subs_server.proofs.Porting.{accepted_one, accepted_end, accepted_same}
 
 zip_append : {A B : Type 0} (R : A → B → Type 0) (xs xs' : List A) (ys ys' : List B) →

@@ -12,7 +12,6 @@ use Rattle.connection_server.specs.Sessions.{Refused, Session, Served}
 use Rattle.subs_server.specs.declared.task.PortEnd.{PortEnd}
 use Rattle.subs_server.specs.declared.task.Task.{Task}
 use Rattle.subs_server.specs.declared.task.Task.TheVariants as task
-use Rattle.subs_server.specs.declared.task.TaskEnd.{TaskEnd}
 use Rattle.subs_server.specs.declared.task.TaskEnd.TheVariants as ended
 use Rattle.subs_server.specs.Ports.{ServesPort}
 use Rattle.subs_server.specs.Works.{Suits}

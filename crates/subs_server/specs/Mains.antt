@@ -1,30 +1,5 @@
 -- Which works the server starts, and what each status means. This project's own.
-use Rattle.std.specs.Prelude.{
-  ◌≡◌,
-  ◌≢◌,
-  ◌<◌,
-  ◌≤◌,
-  ◌+◌,
-  ◌⊎◌,
-  ℕ,
-  zero,
-  suc,
-  Bool,
-  true,
-  false,
-  Option,
-  Some,
-  None,
-  Result,
-  Ok,
-  Err,
-  List,
-  [],
-  ◌∷◌,
-  ◌++◌,
-  length,
-  replicate,
-}
+use Rattle.std.specs.Prelude.{◌≡◌, ◌≢◌, ◌<◌, ◌≤◌, ◌+◌, ◌⊎◌, ℕ, zero, suc, Bool, true, false, Option, Some, None, Ok, Err, List, [], ◌∷◌, ◌++◌, length, replicate}
 use Rattle.std.specs.List.{AllZip}
 use Rattle.outside.specs.Ends.{Rose}
 use Rattle.role_model.specs.declared.metadata.Metadata.{Metadata}

@@ -1,5 +1,5 @@
 -- Which answers suit a work. This project's own.
-use Rattle.std.specs.Prelude.{◌≡◌, ℕ, Bool, Option, None, Result, List}
+use Rattle.std.specs.Prelude.{◌≡◌, ℕ, Bool, None, Result, List}
 use Rattle.role_model.specs.declared.metadata.Metadata.{Metadata}
 use Rattle.machine.specs.State.{Event}
 use Rattle.history_lock.specs.PassViews.{PassView}

@@ -1,4 +1,4 @@
-use Rattle.std.proofs.Common.{◌≡◌, arith}
+use Rattle.std.proofs.Common.{arith}
 use Rattle.subs_server.proofs.Serving.{never_valid, main_none, main_all, main_part}
 use Rattle.subs_server.proofs.main_call.serve_main.Goals as goal
 
