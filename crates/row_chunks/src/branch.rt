@@ -1,7 +1,7 @@
-ghost use Rattle.std.specs.Prelude.{◌≡◌, ◌++◌, ◌+◌, ◌^◌, ◌≤◌, ◌<◌, [], ◌∷◌, insert, length, slice_index_or, IfOk, OnOk, OnErr};
+ghost use Rattle.std.specs.Prelude.{◌≡◌, ◌++◌, ◌+◌, ◌^◌, ◌≤◌, ◌<◌, List, [], ◌∷◌, insert, length, max, slice_index_or, IfOk, OnOk, OnErr};
 ghost use Rattle.std.specs.Arc.{arc_value};
 ghost use Rattle.row_chunks.specs.Edits.{IsPlace, count_after, edited};
-ghost use Rattle.row_chunks.specs.Pieces.{AllCounted, IsCounted, IsSpot, rows_in};
+ghost use Rattle.row_chunks.specs.Pieces.{AllCounted, Held, IsCounted, IsSpot, rows_in};
 
 use crate::chunk::{Chunk, MOST, change_chunk, divided};
 use crate::edit::{Edit, TryCopy, count_after, is_last};
@@ -43,7 +43,7 @@ fn change_piece<T: TryCopy, L: Ledger>(
     requires counted { IsCounted piece.old }
     requires place { IsPlace edit at piece.old.count }
     requires some { 0 < count_after edit piece.old.count }
-    requires most { count_after edit piece.old.count ≤ 64 }
+    requires room { count_after edit piece.old.count ≤ max 64 piece.old.count }
     ensures counted { IsCounted piece.new }
     ensures ok { OnOk result (piece.new.node ≡ edited edit at piece.old.node) }
     ensures err { OnErr result (piece.new ≡ piece.old) }
@@ -59,10 +59,18 @@ fn change_piece<T: TryCopy, L: Ledger>(
 fn divide<T: TryCopy, L: Ledger>(
     alloc: Global,
     chunks: &mut Vec<Piece<Chunk<T>>>,
+    at: usize,
     spot: Spot,
     row: T,
     steps: &mut Steps<L>,
 ) -> Result<(), NoMemory>
+    requires counted { AllCounted chunks.old.items }
+    requires spot { IsSpot chunks.old.items at spot.index spot.offset }
+    requires full { (d : Held (List T)) → 64 ≤ (slice_index_or chunks.old.items spot.index d).count }
+    ensures counted { AllCounted chunks.new.items }
+    ensures ok { OnOk result (rows_in chunks.new.items ≡ insert (rows_in chunks.old.items) at row) }
+    ensures err { OnErr result (chunks.new.items ≡ chunks.old.items) }
+    ensures steps { steps.new ≤ steps.old + 64 }
 {
     let halves = divided(alloc, chunks[spot.index].node(), spot.offset, row, steps)?;
     let (left_count, right_count) = (halves.left.as_slice().len(), halves.right.as_slice().len());
@@ -99,13 +107,19 @@ fn change_chunks<T: TryCopy, L: Ledger>(
     }
     match edit {
         Edit::Insert(row) => {
-            if count == MOST {
-                return divide(alloc, chunks, spot, row, steps);
+            if MOST <= count {
+                return divide(alloc, chunks, at, spot, row, steps);
             }
             let edit = Edit::Insert(row);
             change_piece(alloc, &mut chunks[spot.index], spot.offset, edit, steps)
         }
-        other => change_piece(alloc, &mut chunks[spot.index], spot.offset, other, steps),
+        Edit::Replace(row) => {
+            let edit = Edit::Replace(row);
+            change_piece(alloc, &mut chunks[spot.index], spot.offset, edit, steps)
+        }
+        Edit::Remove => {
+            change_piece(alloc, &mut chunks[spot.index], spot.offset, Edit::Remove, steps)
+        }
     }
 }
 

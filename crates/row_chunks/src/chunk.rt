@@ -1,4 +1,4 @@
-ghost use Rattle.std.specs.Prelude.{◌≡◌, ◌++◌, ◌+◌, ◌≤◌, ◌<◌, [], ◌∷◌, insert, length, IfOk, OnOk, OnErr};
+ghost use Rattle.std.specs.Prelude.{◌≡◌, ◌++◌, ◌+◌, ◌≤◌, ◌<◌, [], ◌∷◌, insert, length, max, IfOk, OnOk, OnErr};
 ghost use Rattle.std.specs.Arc.{arc_value};
 ghost use Rattle.row_chunks.specs.Edits.{IsPlace, count_after, edited};
 
@@ -92,7 +92,7 @@ impl<T: Drop> Chunk<T> {
 
     fn change(&mut self, at: usize, edit: Edit<T>) -> Result<(), NoMemory>
         requires place { IsPlace edit at (length self.old) }
-        requires room { count_after edit (length self.old) ≤ 64 }
+        requires room { count_after edit (length self.old) ≤ max 64 (length self.old) }
         ensures ok { OnOk result (self.new ≡ edited edit at self.old) }
         ensures err { OnErr result (self.new ≡ self.old) }
     {
@@ -109,7 +109,7 @@ pub(crate) fn change_chunk<T: TryCopy, L: Ledger>(
     steps: &mut Steps<L>,
 ) -> Result<(), NoMemory>
     requires place { IsPlace edit at (length (arc_value chunk.old)) }
-    requires room { count_after edit (length (arc_value chunk.old)) ≤ 64 }
+    requires room { count_after edit (length (arc_value chunk.old)) ≤ max 64 (length (arc_value chunk.old)) }
     ensures ok { OnOk result (arc_value chunk.new ≡ edited edit at (arc_value chunk.old)) }
     ensures err { OnErr result (arc_value chunk.new ≡ arc_value chunk.old) }
     ensures steps { steps.new ≤ steps.old + 64 }
@@ -140,21 +140,42 @@ pub(crate) fn divided<T: TryCopy, L: Ledger>(
     row: T,
     steps: &mut Steps<L>,
 ) -> Result<Halves<T>, NoMemory>
-    requires full { length chunk.now ≡ 64 }
-    requires place { at ≤ 64 }
+    requires full { 64 ≤ length chunk.now }
+    requires place { at ≤ length chunk.now }
     ensures rows { IfOk result (λ halves. halves.left ++ halves.right ≡ insert chunk.now at row) }
     ensures left { IfOk result (λ halves. 32 ≤ length halves.left) }
     ensures right { IfOk result (λ halves. 32 ≤ length halves.right) }
     ensures steps { steps.new ≤ steps.old + 64 }
 {
     let rows = chunk.as_slice();
-    let mut left = copy_rows(alloc, &rows[..HALF], steps)?;
-    let mut right = copy_rows(alloc, &rows[HALF..], steps)?;
+    let left = copy_rows(alloc, &rows[..HALF], steps)?;
+    let right = copy_rows(alloc, &rows[HALF..], steps)?;
+    put_in(left, right, at, row)
+}
+
+/// Puts a row into one of two halves of a full chunk.
+fn put_in<T: Drop>(
+    left: Vec<T>,
+    right: Vec<T>,
+    at: usize,
+    row: T,
+) -> Result<Halves<T>, NoMemory>
+    requires left { length left.items ≡ 32 }
+    requires right { length right.items ≡ 32 }
+    requires place { at ≤ 64 }
+    ensures rows { IfOk result (λ halves. halves.left ++ halves.right ≡ insert (left.items ++ right.items) at row) }
+    ensures left { IfOk result (λ halves. 32 ≤ length halves.left) }
+    ensures right { IfOk result (λ halves. 32 ≤ length halves.right) }
+{
+    let (mut left, mut right) = (left, right);
     if at <= HALF {
         change_rows(&mut left, at, Edit::Insert(row))?;
-    } else {
-        change_rows(&mut right, at - HALF, Edit::Insert(row))?;
+        return Ok(Halves {
+            left: Chunk { rows: left },
+            right: Chunk { rows: right },
+        });
     }
+    change_rows(&mut right, at - HALF, Edit::Insert(row))?;
     Ok(Halves {
         left: Chunk { rows: left },
         right: Chunk { rows: right },

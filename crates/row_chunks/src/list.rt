@@ -1,4 +1,4 @@
-ghost use Rattle.std.specs.Prelude.{◌≡◌, ◌+◌, ◌≤◌, ◌<◌, [], drop, insert, remove, length, slice_get, slice_set, IfOk, OnOk, OnErr};
+ghost use Rattle.std.specs.Prelude.{◌≡◌, ◌+◌, ◌^◌, ◌≤◌, ◌<◌, ◌↔◌, [], IsTrue, drop, insert, remove, length, slice_get, slice_set, IfOk, OnOk, OnErr};
 ghost use Rattle.std.specs.Option.{option_copied};
 
 use crate::edit::{Edit, TryCopy};
@@ -39,7 +39,7 @@ impl<T> RowChunks<T> {
     }
 
     pub fn is_empty(&self) -> bool
-        ensures { result ≡ true → self.now ≡ [] }
+        ensures { IsTrue result ↔ (self.now ≡ []) }
     {
         self.trunk.len() == 0
     }
@@ -88,11 +88,13 @@ impl<T: TryCopy> RowChunks<T> {
         steps: &mut Steps<L>,
     ) -> Result<(), NoMemory>
         requires place { place ≤ length self.old }
-        requires room { length self.old + 1 < 2 ^ 64 }
         ensures ok { OnOk result (self.new ≡ insert self.old place row) }
         ensures err { OnErr result (self.new ≡ self.old) }
         ensures steps { steps.new ≤ steps.old + 64 }
     {
+        if self.trunk.len() == usize::MAX {
+            return Err(NoMemory);
+        }
         change_trunk(alloc, &mut self.trunk, place, Edit::Insert(row), steps)
     }
 

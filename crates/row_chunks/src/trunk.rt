@@ -1,9 +1,10 @@
-ghost use Rattle.std.specs.Prelude.{◌≡◌, ◌++◌, ◌+◌, ◌^◌, ◌≤◌, ◌<◌, [], ◌∷◌, insert, length, slice_index_or, IfOk, OnOk, OnErr};
+ghost use Rattle.std.specs.Prelude.{◌≡◌, ◌++◌, ◌+◌, ◌^◌, ◌≤◌, ◌<◌, List, [], ◌∷◌, insert, length, slice_index_or, IfOk, OnOk, OnErr};
 ghost use Rattle.std.specs.Arc.{arc_value};
 ghost use Rattle.row_chunks.specs.Edits.{IsPlace, count_after, edited};
 ghost use Rattle.row_chunks.specs.Pieces.{AllCounted, IsCounted, rows_in};
 
 use crate::branch::{Branch, change_branch};
+use crate::chunk::Chunk;
 use crate::edit::{Edit, TryCopy, count_after, is_last};
 use crate::piece::{Piece, count_in, find, share_pieces};
 use scalar_val::{NoMemory, Steps};
@@ -50,7 +51,7 @@ fn change_piece<T: TryCopy, L: Ledger>(
     requires room { piece.old.count + 1 < 2 ^ 64 }
     ensures counted { IsCounted piece.new }
     ensures ok { OnOk result (piece.new.node ≡ edited edit at piece.old.node) }
-    ensures err { OnErr result (piece.new.node ≡ piece.old.node) }
+    ensures err { OnErr result (piece.new ≡ piece.old) }
     ensures steps { steps.new ≤ steps.old + 64 }
 {
     let count = count_after(&edit, piece.count);
@@ -59,36 +60,33 @@ fn change_piece<T: TryCopy, L: Ledger>(
     Ok(())
 }
 
-/// The two branches that one is divided into.
-#[derive(Drop)]
-struct Halves<T> {
-    left: Piece<Branch<T>>,
-    right: Piece<Branch<T>>,
-}
-
-/// Divides a branch before the chunk at a place. The branch itself stays as it is.
-fn cut_in_two<T: TryCopy>(
+/// A branch of some chunks, which others have too.
+fn branch_of<T: TryCopy>(
     alloc: Global,
-    branch: &Branch<T>,
-    cut: usize,
-) -> Result<Option<Halves<T>>, NoMemory>
-    requires room { length branch.now < 2 ^ 64 }
+    chunks: &[Piece<Chunk<T>>],
+) -> Result<Piece<Branch<T>>, NoMemory>
+    requires counted { AllCounted chunks.now }
+    requires some { 0 < length chunks.now }
+    requires room { length (rows_in chunks.now) < 2 ^ 64 }
+    ensures counted { IfOk result (λ piece. IsCounted piece) }
+    ensures rows { IfOk result (λ piece. piece.node ≡ rows_in chunks.now) }
 {
-    let chunks = branch.chunks.as_slice();
-    if cut == 0 || chunks.len() <= cut {
-        return Ok(None);
-    }
-    let left_count = count_in(&chunks[..cut]);
-    let right_count = count_in(&chunks[cut..]);
-    let left = share_pieces(alloc, &chunks[..cut])?;
-    let right = share_pieces(alloc, &chunks[cut..])?;
-    let left = Piece::of(alloc, left_count, Branch { chunks: left })?;
-    let right = Piece::of(alloc, right_count, Branch { chunks: right })?;
-    Ok(Some(Halves { left, right }))
+    let count = count_in(chunks);
+    let chunks = share_pieces(alloc, chunks)?;
+    Piece::of(alloc, count, Branch { chunks })
 }
 
-/// Divides the branch at a place where it is full. The rows stay the same. The last branch keeps all but its last chunk, so
-/// that branches are full where rows are added at the end.
+/// Where a full branch is divided. The last one keeps all but its last chunk, so that branches are full where rows are
+/// added at the end.
+fn cut_of(chunks: usize, is_last: bool) -> usize
+    requires { 2 ≤ chunks }
+    ensures some { 0 < result }
+    ensures rest { result < chunks }
+{
+    if is_last { chunks - 1 } else { chunks / 2 }
+}
+
+/// Divides the branch at a place where it is full. The rows stay the same.
 fn divide<T: TryCopy>(
     alloc: Global,
     branches: &mut Vec<Piece<Branch<T>>>,
@@ -96,26 +94,22 @@ fn divide<T: TryCopy>(
 ) -> Result<(), NoMemory>
     requires counted { AllCounted branches.old.items }
     requires within { index < length branches.old.items }
+    requires room { length (rows_in branches.old.items) < 2 ^ 64 }
     ensures counted { AllCounted branches.new.items }
     ensures same { rows_in branches.new.items ≡ rows_in branches.old.items }
 {
     let branch = branches[index].node();
-    let chunks = branch.chunks.len();
-    if chunks < FULL {
+    let chunks = branch.chunks.as_slice();
+    if chunks.len() < FULL {
         return Ok(());
     }
-    let cut = if index + 1 == branches.len() {
-        chunks - 1
-    } else {
-        chunks / 2
-    };
-    let Some(halves) = cut_in_two(alloc, branch, cut)? else {
-        return Ok(());
-    };
-    if branches.insert(index + 1, halves.right).is_err() {
+    let cut = cut_of(chunks.len(), index + 1 == branches.len());
+    let left = branch_of(alloc, &chunks[..cut])?;
+    let right = branch_of(alloc, &chunks[cut..])?;
+    if branches.insert(index + 1, right).is_err() {
         return Err(NoMemory);
     }
-    branches[index] = halves.left;
+    branches[index] = left;
     Ok(())
 }
 

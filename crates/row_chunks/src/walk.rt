@@ -1,4 +1,5 @@
 ghost use Rattle.std.specs.Prelude.{◌≡◌, ◌++◌, ◌≤◌, ◌<◌, [], drop, length, IfSome, MatchOption};
+ghost use Rattle.row_chunks.specs.Pieces.{AllCounted, rows_in};
 
 use crate::branch::Branch;
 use crate::chunk::Chunk;
@@ -9,7 +10,7 @@ use std::marker::Model;
 /// Rows that are still to be given, chunk by chunk. Contracts see the list of them.
 #[derive(Drop)]
 pub struct Walk<'a, T> {
-    front: Option<&'a [T]>,
+    front: &'a [T],
     chunks: &'a [Piece<Chunk<T>>],
     branches: &'a [Piece<Branch<T>>],
 }
@@ -35,9 +36,10 @@ impl<'a, T> Walk<'a, T> {
         ensures some { IfSome result (λ rows. 0 < length rows.now) }
         ensures most { IfSome result (λ rows. length rows.now ≤ 64) }
     {
-        if let Some(rows) = self.front {
-            self.front = None;
-            return Some(rows);
+        let front = self.front;
+        if !front.is_empty() {
+            self.front = &front[front.len()..];
+            return Some(front);
         }
         if let [chunk, rest @ ..] = self.chunks {
             self.chunks = rest;
@@ -62,18 +64,32 @@ pub(crate) fn walk_from<T>(trunk: &Trunk<T>, place: usize) -> Walk<'_, T>
     let branches = trunk.branches.as_slice();
     if trunk.len() <= place {
         return Walk {
-            front: None,
+            front: &[],
             chunks: &[],
             branches: &branches[branches.len()..],
         };
     }
     let spot = find(branches, place);
-    let chunks = branches[spot.index].node().chunks.as_slice();
-    let inner = find(chunks, spot.offset);
-    let rows = chunks[inner.index].node().as_slice();
+    let branch = branches[spot.index].node();
+    within(branch, spot.offset, &branches[spot.index + 1..])
+}
+
+/// The rows of a branch from a place on, and those of the branches after it.
+fn within<'a, T>(
+    branch: &'a Branch<T>,
+    at: usize,
+    branches: &'a [Piece<Branch<T>>],
+) -> Walk<'a, T>
+    requires place { at < length branch.now }
+    requires counted { AllCounted branches.now }
+    ensures { result ≡ drop at branch.now ++ rows_in branches.now }
+{
+    let chunks = branch.chunks.as_slice();
+    let spot = find(chunks, at);
+    let rows = chunks[spot.index].node().as_slice();
     Walk {
-        front: Some(&rows[inner.offset..]),
-        chunks: &chunks[inner.index + 1..],
-        branches: &branches[spot.index + 1..],
+        front: &rows[spot.offset..],
+        chunks: &chunks[spot.index + 1..],
+        branches,
     }
 }
