@@ -126,3 +126,49 @@ module _ {T : Type 0} where
   pub read_row : (pieces : List (Held (List T))) (at i offset : ℕ) (q : Held (List T)) (x : T) → AllCounted pieces → IsSpot pieces at i offset → at < length (rows_in pieces) → q ≡ get_or pieces i q → x ≡ get_or q.node offset x → x ≡ get_or (rows_in pieces) at x
   read_row pieces at i offset q x counted spot before read is =
       is ∙ ap (λ (p : Held (List T)). get_or p.node offset x) read ∙ sym (got_row pieces at i offset q x counted spot before)
+
+  place_upto : (e : Edit T) (at n : ℕ) → IsPlace e at n → at ≤ n
+  place_upto (Insert row) at n place = place
+  place_upto (Replace row) at n place = omega arith
+  place_upto Remove at n place = omega arith
+
+  pub place_counted : (e : Edit T) (pieces read : List (Held (List T))) (at : ℕ) → read ≡ pieces → AllCounted pieces → IsPlace e at (length (rows_in pieces)) → at ≤ count_in read
+  place_counted e pieces read at same counted place =
+      let k : count_in read ≡ count_in pieces = ap count_in same in
+      let upto = place_upto e at (length (rows_in pieces)) place in
+      omega (arith, counted_rows pieces counted)
+
+  pub place_read : (e was : Edit T) (pieces : List (Held (List T))) (at i offset : ℕ) (q : Held (List T)) → was ≡ e → AllCounted pieces → IsSpot pieces at i offset → IsPlace was at (length (rows_in pieces)) → q ≡ get_or pieces i q → IsPlace e offset q.count
+  place_read e was pieces at i offset q same counted spot place read =
+      let c = All-get_or IsCounted pieces i q spot.within counted in
+      let here = place_within e pieces at i offset q counted spot (subst (λ (x : Edit T). IsPlace x at (length (rows_in pieces))) same place) in
+      subst (λ (p : Held (List T)). IsPlace e offset p.count) (sym read) (subst (λ (n : ℕ). IsPlace e offset n) (sym c.same) here)
+
+  pub changed_read : (e was : Edit T) (pieces : List (Held (List T))) (at i offset : ℕ) (q new : Held (List T)) → was ≡ e → AllCounted pieces → IsSpot pieces at i offset → IsPlace was at (length (rows_in pieces)) → q ≡ get_or pieces i q → new.node ≡ edited e offset q.node → rows_in (set pieces i new) ≡ edited was at (rows_in pieces)
+  changed_read e was pieces at i offset q new same counted spot place read is =
+      changed_rows e pieces at i offset q new counted spot (subst (λ (x : Edit T). IsPlace x at (length (rows_in pieces))) same place) (is ∙ ap (λ (p : Held (List T)). edited e offset p.node) read) ∙ ap (λ (x : Edit T). edited x at (rows_in pieces)) (sym same)
+
+  pub removed_read : (e : Edit T) (pieces : List (Held (List T))) (at i offset n : ℕ) (q : Held (List T)) → AllCounted pieces → IsSpot pieces at i offset → IsPlace e at (length (rows_in pieces)) → q ≡ get_or pieces i q → n ≡ q.count → count_after e n ≡ 0 → rows_in (remove pieces i) ≡ edited e at (rows_in pieces)
+  removed_read e pieces at i offset n q counted spot place read is none =
+      removed_rows e pieces at i offset q counted spot place (subst (λ (k : ℕ). count_after e k ≡ 0) (is ∙ ap (λ (p : Held (List T)). p.count) read) none)
+
+  -- a piece has no more rows than all
+  pub read_within : (pieces : List (Held (List T))) (i : ℕ) (q : Held (List T)) → i < length pieces → AllCounted pieces → q ≡ get_or pieces i q → q.count ≤ length (rows_in pieces)
+  read_within pieces i q within counted read =
+      let c = All-get_or IsCounted pieces i q within counted in
+      let all : length (rows_in pieces) ≡ length (rows_in (take i pieces) ++ ((get_or pieces i q).node ++ rows_in (drop (suc i) pieces))) = ap length (split_rows pieces i q within) in
+      let n : q.count ≡ (get_or pieces i q).count = ap (λ (p : Held (List T)). p.count) read in
+      omega (arith, c.same, length-append (rows_in (take i pieces)) ((get_or pieces i q).node ++ rows_in (drop (suc i) pieces)), length-append (get_or pieces i q).node (rows_in (drop (suc i) pieces)))
+
+  pub divided_edit : (row : T) (pieces : List (Held (List T))) (at i offset : ℕ) (q left right : Held (List T)) → AllCounted pieces → IsSpot pieces at i offset → at ≤ length (rows_in pieces) → q ≡ get_or pieces i q → left.node ++ right.node ≡ insert q.node offset row → rows_in (set (insert pieces (i + 1) right) i left) ≡ insert (rows_in pieces) at row
+  divided_edit row pieces at i offset q left right counted spot place read is =
+      divided_rows pieces i q left right (insert (get_or pieces i q).node offset row) spot.within (is ∙ ap (λ (p : Held (List T)). insert p.node offset row) read) ∙ sym (edited_rows (Insert row) pieces at i offset q counted spot place)
+
+  pub divided_same : (pieces : List (Held (List T))) (i : ℕ) (q left right : Held (List T)) → i < length pieces → q ≡ get_or pieces i q → left.node ++ right.node ≡ q.node → rows_in (set (insert pieces (i + 1) right) i left) ≡ rows_in pieces
+  divided_same pieces i q left right within read is =
+      divided_rows pieces i q left right (get_or pieces i q).node within (is ∙ ap (λ (p : Held (List T)). p.node) read) ∙ sym (split_rows pieces i q within)
+
+  -- two parts of some pieces
+  pub parted_rows : (pieces : List (Held (List T))) (cut : ℕ) → rows_in (take cut pieces) ++ rows_in (drop cut pieces) ≡ rows_in pieces
+  parted_rows pieces cut =
+      sym (flat_map-append (λ (p : Held (List T)). p.node) (take cut pieces) (drop cut pieces)) ∙ ap rows_in (take-append-drop cut pieces)

@@ -49,7 +49,8 @@ fn change_piece<T: TryCopy, L: Ledger>(
     ensures err { OnErr result (piece.new ≡ piece.old) }
     ensures steps { steps.new ≤ steps.old + 64 }
 {
-    let count = count_after(&edit, piece.count);
+    let chunk: &Chunk<T> = &piece.node;
+    let count = count_after(&edit, chunk.as_slice().len());
     change_chunk(alloc, &mut piece.node, at, edit, steps)?;
     piece.count = count;
     Ok(())
@@ -66,6 +67,7 @@ fn divide<T: TryCopy, L: Ledger>(
 ) -> Result<(), NoMemory>
     requires counted { AllCounted chunks.old.items }
     requires spot { IsSpot chunks.old.items at spot.index spot.offset }
+    requires place { at ≤ length (rows_in chunks.old.items) }
     requires full { (d : Held (List T)) → 64 ≤ (slice_index_or chunks.old.items spot.index d).count }
     ensures counted { AllCounted chunks.new.items }
     ensures ok { OnOk result (rows_in chunks.new.items ≡ insert (rows_in chunks.old.items) at row) }
@@ -76,9 +78,7 @@ fn divide<T: TryCopy, L: Ledger>(
     let (left_count, right_count) = (halves.left.as_slice().len(), halves.right.as_slice().len());
     let left = Piece::of(alloc, left_count, halves.left)?;
     let right = Piece::of(alloc, right_count, halves.right)?;
-    if chunks.insert(spot.index + 1, right).is_err() {
-        return Err(NoMemory);
-    }
+    chunks.insert(spot.index + 1, right)?;
     chunks[spot.index] = left;
     Ok(())
 }

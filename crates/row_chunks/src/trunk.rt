@@ -106,9 +106,7 @@ fn divide<T: TryCopy>(
     let cut = cut_of(chunks.len(), index + 1 == branches.len());
     let left = branch_of(alloc, &chunks[..cut])?;
     let right = branch_of(alloc, &chunks[cut..])?;
-    if branches.insert(index + 1, right).is_err() {
-        return Err(NoMemory);
-    }
+    branches.insert(index + 1, right)?;
     branches[index] = left;
     Ok(())
 }
@@ -150,9 +148,7 @@ fn start<T: TryCopy>(
     ensures err { OnErr result (rows_in branches.new.items ≡ rows_in branches.old.items) }
 {
     let piece = Piece::of(alloc, 1, Branch::one(alloc, row)?)?;
-    if branches.push(piece).is_err() {
-        return Err(NoMemory);
-    }
+    branches.push(piece)?;
     Ok(())
 }
 
