@@ -26,9 +26,14 @@ change_piece-requires-in-Remove-clause-place g c =
 pub returns-in-Replace-clause-ok : goal.returns-in-Replace-clause-ok
 returns-in-Replace-clause-ok g c =
     let spot = subst (λ (ps : List (Held (List g.row.T.Denot))). IsSpot ps c.args.at c.find-spot.result.index c.find-spot.result.offset) c.as_slice.ensures.value c.find-spot.ensures in
-    on_ok_weaker c.change_piece-in-Replace.result _ _ (changed_read _ c.args.edit c.args.chunks.now.items c.args.at c.find-spot.result.index c.find-spot.result.offset c.index_mut-in-Replace.result.now c.change_piece-in-Replace.new.piece c.in-Replace.is c.requires.counted spot c.requires.place c.index_mut-in-Replace.ensures.value) c.change_piece-in-Replace.ensures.ok
+    on_ok_weaker c.change_piece-in-Replace.result (changed_read _ c.args.edit c.args.chunks.now.items c.args.at c.find-spot.result.index c.find-spot.result.offset c.index_mut-in-Replace.result.now c.change_piece-in-Replace.new.piece c.in-Replace.is c.requires.counted spot c.requires.place c.index_mut-in-Replace.ensures.value) c.change_piece-in-Replace.ensures.ok
 
 pub returns-in-Remove-clause-ok : goal.returns-in-Remove-clause-ok
 returns-in-Remove-clause-ok g c =
     let spot = subst (λ (ps : List (Held (List g.row.T.Denot))). IsSpot ps c.args.at c.find-spot.result.index c.find-spot.result.offset) c.as_slice.ensures.value c.find-spot.ensures in
-    on_ok_weaker c.change_piece-in-Remove.result _ _ (changed_read _ c.args.edit c.args.chunks.now.items c.args.at c.find-spot.result.index c.find-spot.result.offset c.index_mut-in-Remove.result.now c.change_piece-in-Remove.new.piece c.in-Remove.is c.requires.counted spot c.requires.place c.index_mut-in-Remove.ensures.value) c.change_piece-in-Remove.ensures.ok
+    on_ok_weaker c.change_piece-in-Remove.result (changed_read _ c.args.edit c.args.chunks.now.items c.args.at c.find-spot.result.index c.find-spot.result.offset c.index_mut-in-Remove.result.now c.change_piece-in-Remove.new.piece c.in-Remove.is c.requires.counted spot c.requires.place c.index_mut-in-Remove.ensures.value) c.change_piece-in-Remove.ensures.ok
+
+pub returns-else-count-ge-MOST-clause-ok : goal.returns-else-count-ge-MOST-clause-ok
+returns-else-count-ge-MOST-clause-ok g c =
+    let spot = subst (λ (ps : List (Held (List g.row.T.Denot))). IsSpot ps c.args.at c.find-spot.result.index c.find-spot.result.offset) c.as_slice.ensures.value c.find-spot.ensures in
+    on_ok_weaker c.change_piece.result (changed_read _ c.args.edit c.args.chunks.now.items c.args.at c.find-spot.result.index c.find-spot.result.offset c.index_mut.result.now c.change_piece.new.piece c.in-Insert.is c.requires.counted spot c.requires.place c.index_mut.ensures.value) c.change_piece.ensures.ok
