@@ -1,14 +1,14 @@
 -- Edits of a list in pieces. This project's own.
-use Rattle.std.proofs.Common.{◌≡◌, ◌∙◌, ℕ, ◌+◌, ◌-◌, ◌<◌, ◌≤◌, List, [], ◌∷◌, ◌++◌, length, get_or, set, take, drop, zero, suc, refl, sym, ap, subst, append_assoc, add-one, arith, length-append, rules}
+use Rattle.std.proofs.Common.{◌≡◌, ◌∙◌, ℕ, ◌+◌, ◌-◌, ◌^◌, ◌<◌, ◌≤◌, List, [], ◌∷◌, ◌++◌, length, get_or, set, take, drop, zero, suc, refl, sym, ap, subst, append_assoc, add-one, arith, length-append, rules}
 use Rattle.std.specs.List.{All, flat_map, sum_by, insert, remove}
 use Rattle.std.proofs.Math.Seq.{drop-cons}
 use Rattle.std.proofs.lemmas.Grind.{common_steps}
-use Rattle.std.proofs.lemmas.List.{set_split, take-append-drop, set-append_left, set-append_right, nil_from_length, get_or_read, get_or_append_left, get_or-append_right}
+use Rattle.std.proofs.lemmas.List.{set_split, take-append-drop, set-append_left, set-append_right, nil_from_length, drop-drop, drop_at, drop-append-le, get_or_append_left, get_or-append_right}
 use Rattle.std.proofs.lemmas.List.Concat.{flat_map-append}
 use Rattle.std.proofs.lemmas.List.Edits.{insert-append_left, insert-append_right, remove-append_left, remove-append_right, length-insert, length-remove}
 use Rattle.std.proofs.lemmas.List.Elements.{All-append, All-cons, All-head, All-tail, All-take, All-drop, All-get_or}
 use Rattle.std.proofs.lemmas.List.Sums.{sum_by-cons}
-use Rattle.row_chunks.specs.Edits.{IsPlace, edited, count_after}
+use Rattle.row_chunks.specs.Edits.{HasRoom, IsPlace, edited, count_after}
 use Rattle.row_chunks.specs.declared.edit.Edit.{Edit}
 use Rattle.row_chunks.specs.declared.edit.Edit.TheVariants.{Insert, Replace, Remove}
 use Rattle.row_chunks.specs.Pieces.{Held, IsCounted, AllCounted, rows_in, count_in, IsSpot}
@@ -172,3 +172,38 @@ module _ {T : Type 0} where
   pub parted_rows : (pieces : List (Held (List T))) (cut : ℕ) → rows_in (take cut pieces) ++ rows_in (drop cut pieces) ≡ rows_in pieces
   parted_rows pieces cut =
       sym (flat_map-append (λ (p : Held (List T)). p.node) (take cut pieces) (drop cut pieces)) ∙ ap rows_in (take-append-drop cut pieces)
+
+  pub room_from : (e : Edit T) (n : ℕ) → n + 1 < 2 ^ 64 → HasRoom e n
+  room_from (Insert row) n h = h
+  room_from (Replace row) n h = tt
+  room_from Remove n h = tt
+
+  pub room_within : (e : Edit T) (n m : ℕ) → m ≤ n → HasRoom e n → HasRoom e m
+  room_within (Insert row) n m le h = omega arith
+  room_within (Replace row) n m le h = tt
+  room_within Remove n m le h = tt
+
+  pub node_within : (pieces : List (Held (List T))) (i : ℕ) (q : Held (List T)) → i < length pieces → AllCounted pieces → q ≡ get_or pieces i q → length q.node ≤ length (rows_in pieces)
+  node_within pieces i q within counted read =
+      let c = All-get_or IsCounted pieces i q within counted in
+      let n : q.count ≡ (get_or pieces i q).count = ap (λ (p : Held (List T)). p.count) read in
+      let m : length q.node ≡ length (get_or pieces i q).node = ap (λ (p : Held (List T)). length p.node) read in
+      omega (arith, c.same, read_within pieces i q within counted read)
+
+  pub front_within : (pieces : List (Held (List T))) (cut : ℕ) → length (rows_in (take cut pieces)) ≤ length (rows_in pieces)
+  front_within pieces cut =
+      omega (arith, ap length (parted_rows pieces cut), length-append (rows_in (take cut pieces)) (rows_in (drop cut pieces)))
+
+  pub back_within : (pieces : List (Held (List T))) (cut : ℕ) → length (rows_in (drop cut pieces)) ≤ length (rows_in pieces)
+  back_within pieces cut =
+      omega (arith, ap length (parted_rows pieces cut), length-append (rows_in (take cut pieces)) (rows_in (drop cut pieces)))
+
+  drop_middle : (a p b : List T) (at offset : ℕ) → length a + offset ≡ at → offset ≤ length p → drop at (a ++ (p ++ b)) ≡ drop offset p ++ b
+  drop_middle a p b at offset is within =
+      ap (λ (n : ℕ). drop n (a ++ (p ++ b))) (sym is) ∙ sym (drop-drop offset (length a) (a ++ (p ++ b))) ∙ ap (drop offset) (drop_at a (p ++ b) (length a) refl) ∙ drop-append-le offset p b within
+
+  -- the rows from a place on
+  pub dropped_rows : (pieces : List (Held (List T))) (at i offset : ℕ) (q : Held (List T)) → AllCounted pieces → IsSpot pieces at i offset → q ≡ get_or pieces i q → drop at (rows_in pieces) ≡ drop offset q.node ++ rows_in (drop (i + 1) pieces)
+  dropped_rows pieces at i offset q counted spot read =
+      let whole = ap (drop at) (split_rows pieces i q spot.within) ∙ drop_middle (rows_in (take i pieces)) (get_or pieces i q).node (rows_in (drop (suc i) pieces)) at offset (spot_place pieces at i offset counted spot) (spot_upto pieces at i offset q counted spot) in
+      rw add-one (whole ∙ ap (λ (p : Held (List T)). drop offset p.node ++ rows_in (drop (suc i) pieces)) (sym read))

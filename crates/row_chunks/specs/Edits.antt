@@ -1,5 +1,5 @@
 -- What an edit makes of a list, and where it may be made. This project's own.
-use Rattle.std.specs.Prelude.{ℕ, ◌+◌, ◌-◌, ◌<◌, ◌≤◌, List, length, insert, remove, slice_set}
+use Rattle.std.specs.Prelude.{ℕ, ◌+◌, ◌-◌, ◌^◌, ◌<◌, ◌≤◌, List, length, insert, remove, slice_set, ⊤}
 use Rattle.row_chunks.specs.declared.edit.Edit.{Edit}
 use Rattle.row_chunks.specs.declared.edit.Edit.TheVariants.{Insert, Replace, Remove}
 
@@ -19,3 +19,9 @@ abbrev pub count_after : {T : Type 0} → Edit T → ℕ → ℕ
 count_after (Insert row) count = count + 1
 count_after (Replace row) count = count
 count_after Remove count = count - 1
+
+-- the count after an edit is a number of 64 bits, where the one before is
+abbrev pub HasRoom : {T : Type 0} → Edit T → ℕ → Type 0
+HasRoom (Insert row) count = count + 1 < 2 ^ 64
+HasRoom (Replace row) count = ⊤
+HasRoom Remove count = ⊤

@@ -1,5 +1,5 @@
-ghost use Rattle.std.specs.Prelude.{◌≡◌, ◌^◌, ◌+◌, ◌<◌, true, false, IfOk};
-ghost use Rattle.row_chunks.specs.Edits.{count_after};
+ghost use Rattle.std.specs.Prelude.{◌≡◌, ◌<◌, true, false, IfOk};
+ghost use Rattle.row_chunks.specs.Edits.{HasRoom, count_after};
 
 use scalar_val::NoMemory;
 use std::alloc::Global;
@@ -21,7 +21,7 @@ pub(crate) enum Edit<T> {
 
 /// How many rows there are after an edit.
 pub(crate) fn count_after<T>(edit: &Edit<T>, count: usize) -> usize
-    requires room { count + 1 < 2 ^ 64 }
+    requires room { HasRoom edit.now count }
     requires some { 0 < count }
     ensures { result ≡ count_after edit.now count }
 {

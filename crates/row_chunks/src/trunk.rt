@@ -1,6 +1,6 @@
 ghost use Rattle.std.specs.Prelude.{◌≡◌, ◌++◌, ◌+◌, ◌^◌, ◌≤◌, ◌<◌, List, [], ◌∷◌, insert, length, slice_index_or, IfOk, OnOk, OnErr};
 ghost use Rattle.std.specs.Arc.{arc_value};
-ghost use Rattle.row_chunks.specs.Edits.{IsPlace, count_after, edited};
+ghost use Rattle.row_chunks.specs.Edits.{HasRoom, IsPlace, count_after, edited};
 ghost use Rattle.row_chunks.specs.Pieces.{AllCounted, IsCounted, rows_in};
 
 use crate::branch::{Branch, change_branch};
@@ -48,7 +48,7 @@ fn change_piece<T: TryCopy, L: Ledger>(
     requires counted { IsCounted piece.old }
     requires place { IsPlace edit at piece.old.count }
     requires some { 0 < count_after edit piece.old.count }
-    requires room { piece.old.count + 1 < 2 ^ 64 }
+    requires room { HasRoom edit piece.old.count }
     ensures counted { IsCounted piece.new }
     ensures ok { OnOk result (piece.new.node ≡ edited edit at piece.old.node) }
     ensures err { OnErr result (piece.new ≡ piece.old) }
@@ -121,7 +121,7 @@ fn change_branches<T: TryCopy, L: Ledger>(
 ) -> Result<(), NoMemory>
     requires counted { AllCounted branches.old.items }
     requires some { 0 < length (rows_in branches.old.items) }
-    requires room { length (rows_in branches.old.items) + 1 < 2 ^ 64 }
+    requires room { HasRoom edit (length (rows_in branches.old.items)) }
     requires place { IsPlace edit at (length (rows_in branches.old.items)) }
     ensures counted { AllCounted branches.new.items }
     ensures ok { OnOk result (rows_in branches.new.items ≡ edited edit at (rows_in branches.old.items)) }
@@ -198,7 +198,7 @@ impl<T: TryCopy> Trunk<T> {
         steps: &mut Steps<L>,
     ) -> Result<(), NoMemory>
         requires some { 0 < length self.old }
-        requires room { length self.old + 1 < 2 ^ 64 }
+        requires room { HasRoom edit (length self.old) }
         requires place { IsPlace edit at (length self.old) }
         ensures ok { OnOk result (self.new ≡ edited edit at self.old) }
         ensures err { OnErr result (self.new ≡ self.old) }
@@ -247,7 +247,7 @@ impl<T: TryCopy> Trunk<T> {
         edit: Edit<T>,
         steps: &mut Steps<L>,
     ) -> Result<(), NoMemory>
-        requires room { length self.old + 1 < 2 ^ 64 }
+        requires room { HasRoom edit (length self.old) }
         requires place { IsPlace edit at (length self.old) }
         ensures ok { OnOk result (self.new ≡ edited edit at self.old) }
         ensures err { OnErr result (self.new ≡ self.old) }
@@ -277,7 +277,7 @@ pub(crate) fn change_trunk<T: TryCopy, L: Ledger>(
     edit: Edit<T>,
     steps: &mut Steps<L>,
 ) -> Result<(), NoMemory>
-    requires room { length (arc_value trunk.old) + 1 < 2 ^ 64 }
+    requires room { HasRoom edit (length (arc_value trunk.old)) }
     requires place { IsPlace edit at (length (arc_value trunk.old)) }
     ensures ok { OnOk result (arc_value trunk.new ≡ edited edit at (arc_value trunk.old)) }
     ensures err { OnErr result (arc_value trunk.new ≡ arc_value trunk.old) }

@@ -1,7 +1,7 @@
-use Rattle.std.proofs.Common.{◌≡◌, ◌∙◌, List, refl, sym, ap, subst, arith}
+use Rattle.std.proofs.Common.{◌≡◌, ◌∙◌, List, refl, sym, ap, subst}
 use Rattle.std.proofs.lemmas.Result.{on_ok_weaker}
 use Rattle.row_chunks.specs.Pieces.{Held, IsSpot, rows_in}
-use Rattle.row_chunks.proofs.Pieces.{place_counted, place_read, changed_read, removed_read, read_within}
+use Rattle.row_chunks.proofs.Pieces.{place_counted, place_read, changed_read, removed_read, read_within, room_within}
 use Rattle.row_chunks.proofs.trunk.change_branches.Goals as goal
 
 pub find-spot-requires-clause-within : goal.find-spot-requires-clause-within
@@ -21,7 +21,7 @@ change_piece-requires-clause-place g c =
 pub change_piece-requires-clause-room : goal.change_piece-requires-clause-room
 change_piece-requires-clause-room g c =
     let spot = subst (λ (ps : List (Held (List g.row.T.Denot))). IsSpot ps c.args.at c.find-spot.result.index c.find-spot.result.offset) c.as_slice.ensures.value c.find-spot.ensures in
-    omega (arith, read_within c.args.branches.now.items c.find-spot.result.index c.index_mut.result.now spot.within c.requires.counted c.index_mut.ensures.value, c.requires.room)
+    room_within c.args.edit _ c.index_mut.result.now.count (read_within c.args.branches.now.items c.find-spot.result.index c.index_mut.result.now spot.within c.requires.counted c.index_mut.ensures.value) c.requires.room
 
 pub returns-clause-ok : goal.returns-clause-ok
 returns-clause-ok g c =
