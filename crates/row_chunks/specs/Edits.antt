@@ -1,5 +1,5 @@
 -- What an edit makes of a list, and where it may be made. This project's own.
-use Rattle.std.specs.Prelude.{ℕ, ◌+◌, ◌-◌, ◌^◌, ◌<◌, ◌≤◌, List, length, insert, remove, slice_set, ⊤}
+use Rattle.std.specs.Prelude.{ℕ, ◌+◌, ◌-◌, ◌^◌, ◌<◌, ◌≤◌, List, insert, remove, slice_set, ⊤}
 use Rattle.row_chunks.specs.declared.edit.Edit.{Edit}
 use Rattle.row_chunks.specs.declared.edit.Edit.TheVariants.{Insert, Replace, Remove}
 

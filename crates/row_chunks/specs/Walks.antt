@@ -1,5 +1,5 @@
 -- The rows that are left of a walk. This project's own.
-use Rattle.std.specs.Prelude.{ℕ, ◌≤◌, List, ◌++◌, length}
+use Rattle.std.specs.Prelude.{◌≤◌, List, ◌++◌, length}
 use Rattle.row_chunks.specs.Pieces.{AllCounted, rows_in}
 use Rattle.row_chunks.specs.declared.walk.Walk.TheInside.{Inside}
 

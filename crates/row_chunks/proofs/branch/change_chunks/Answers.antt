@@ -1,4 +1,4 @@
-use Rattle.std.proofs.Common.{◌≡◌, ◌∙◌, List, sym, ap, subst}
+use Rattle.std.proofs.Common.{◌∙◌, List, ap, subst}
 use Rattle.std.proofs.lemmas.Result.{on_ok_weaker}
 use Rattle.row_chunks.specs.Pieces.{Held, IsSpot, rows_in}
 use Rattle.row_chunks.proofs.Pieces.{place_counted, place_read, changed_read, removed_read}

@@ -1,4 +1,4 @@
-use Rattle.std.proofs.Common.{◌≡◌, length, ap, arith}
+use Rattle.std.proofs.Common.{length, ap, arith}
 use Rattle.row_chunks.proofs.Pieces.{room_from}
 use Rattle.row_chunks.proofs.branch.change_piece.Goals as goal
 

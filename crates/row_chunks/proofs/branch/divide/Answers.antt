@@ -1,6 +1,6 @@
-use Rattle.std.proofs.Common.{◌≡◌, ◌∙◌, ◌+◌, ◌<◌, ◌++◌, List, length, set, sym, ap, subst, arith}
+use Rattle.std.proofs.Common.{◌≡◌, ◌∙◌, ◌++◌, List, length, set, sym, ap, subst, arith}
 use Rattle.std.specs.List.{insert}
-use Rattle.row_chunks.specs.Pieces.{Held, AllCounted, IsCounted, rows_in}
+use Rattle.row_chunks.specs.Pieces.{Held, AllCounted, rows_in}
 use Rattle.row_chunks.proofs.Pieces.{divided_counted, divided_edit}
 use Rattle.row_chunks.proofs.branch.divide.Goals as goal
 

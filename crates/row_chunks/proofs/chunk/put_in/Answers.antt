@@ -1,4 +1,4 @@
-use Rattle.std.proofs.Common.{◌≡◌, ◌∙◌, ◌++◌, List, sym, ap, arith}
+use Rattle.std.proofs.Common.{◌∙◌, ◌++◌, List, sym, ap, arith}
 use Rattle.std.proofs.lemmas.List.Edits.{insert-append_right}
 use Rattle.row_chunks.proofs.chunk.put_in.Goals as goal
 

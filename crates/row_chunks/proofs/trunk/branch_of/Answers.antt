@@ -1,6 +1,6 @@
-use Rattle.std.proofs.Common.{◌≡◌, ◌∙◌, ◌<◌, ℕ, List, Result, Ok, Err, length, sym, ap, subst, arith}
+use Rattle.std.proofs.Common.{◌≡◌, ◌∙◌, ◌<◌, ℕ, List, Result, Ok, Err, length, sym, ap, arith}
 use Rattle.std.specs.Prelude.{IfOk}
-use Rattle.row_chunks.specs.Pieces.{Held, IsCounted}
+use Rattle.row_chunks.specs.Pieces.{Held, IsCounted, rows_in}
 use Rattle.row_chunks.proofs.Pieces.{counted_rows, some_rows}
 use Rattle.row_chunks.proofs.trunk.branch_of.Goals as goal
 
@@ -16,4 +16,8 @@ pub count_in-count-requires : goal.count_in-count-requires
 count_in-count-requires g c = omega (arith, counted_rows c.args.chunks.now c.requires.counted, c.requires.room)
 
 pub returns-clause-counted : goal.returns-clause-counted
-returns-clause-counted g c = ?
+returns-clause-counted g c =
+    let chunks = c.in_ok-chunks.chunks.items in
+    let same : length (rows_in c.args.chunks.now) ≡ length (rows_in chunks) = ap (λ (ps : List (Held (List g.row.T.Denot))). length (rows_in ps)) (sym c.in_ok-chunks.ensures) in
+    let some = some_rows c.args.chunks.now c.requires.counted c.requires.some in
+    counted_ok c.of.result c.count_in-count.result (rows_in chunks) (c.count_in-count.ensures ∙ counted_rows c.args.chunks.now c.requires.counted ∙ same) (omega (arith, same, some)) c.of.ensures.count c.of.ensures.node

@@ -1,4 +1,4 @@
-use Rattle.std.proofs.Common.{◌≡◌, ◌∙◌, ◌+◌, ◌-◌, ◌<◌, ◌≤◌, ◌++◌, List, length, set, take, drop, sym, ap, subst, arith}
+use Rattle.std.proofs.Common.{◌≡◌, ◌∙◌, ◌-◌, ◌++◌, List, length, set, take, drop, sym, ap, subst, arith}
 use Rattle.std.proofs.lemmas.List.{take_rest}
 use Rattle.std.proofs.lemmas.List.Elements.{All-take, All-drop}
 use Rattle.row_chunks.specs.Pieces.{Held, AllCounted, IsCounted, rows_in}
@@ -13,7 +13,11 @@ branch_of-requires-clause-room g c =
     omega (arith, whole, within, front_within chunks c.cut_of-cut.result, c.requires.room)
 
 pub branch_of-requires-2-clause-counted : goal.branch_of-requires-2-clause-counted
-branch_of-requires-2-clause-counted g c = ?
+branch_of-requires-2-clause-counted g c =
+    let chunks = c.as_slice-chunks.result.now in
+    let cut = c.cut_of-cut.result in
+    let counted = subst (λ (ps : List (Held (List g.row.T.Denot))). AllCounted ps) (sym c.as_slice-chunks.ensures.value) c.branch.invariant in
+    All-take IsCounted (length chunks - cut) (drop cut chunks) (All-drop IsCounted cut chunks counted)
 
 pub branch_of-requires-2-clause-room : goal.branch_of-requires-2-clause-room
 branch_of-requires-2-clause-room g c =

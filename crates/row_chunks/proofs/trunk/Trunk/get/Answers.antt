@@ -1,4 +1,4 @@
-use Rattle.std.proofs.Common.{◌≡◌, ◌∙◌, ◌<◌, List, length, get_or, sym, ap, subst, arith}
+use Rattle.std.proofs.Common.{◌≡◌, ◌<◌, List, length, get_or, sym, ap, subst, arith}
 use Rattle.row_chunks.specs.Pieces.{Held, IsSpot, count_in, rows_in}
 use Rattle.row_chunks.proofs.Pieces.{counted_rows, read_inside, read_row}
 use Rattle.row_chunks.proofs.trunk.Trunk.get.Goals as goal
