@@ -118,7 +118,13 @@ fn change_chunks<T: TryCopy, L: Ledger>(
             change_piece(alloc, &mut chunks[spot.index], spot.offset, edit, steps)
         }
         Edit::Remove => {
-            change_piece(alloc, &mut chunks[spot.index], spot.offset, Edit::Remove, steps)
+            change_piece(
+                alloc,
+                &mut chunks[spot.index],
+                spot.offset,
+                Edit::Remove,
+                steps,
+            )
         }
     }
 }

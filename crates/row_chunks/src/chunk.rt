@@ -154,12 +154,7 @@ pub(crate) fn divided<T: TryCopy, L: Ledger>(
 }
 
 /// Puts a row into one of two halves of a full chunk.
-fn put_in<T: Drop>(
-    left: Vec<T>,
-    right: Vec<T>,
-    at: usize,
-    row: T,
-) -> Result<Halves<T>, NoMemory>
+fn put_in<T: Drop>(left: Vec<T>, right: Vec<T>, at: usize, row: T) -> Result<Halves<T>, NoMemory>
     requires left { length left.items ≡ 32 }
     requires right { length right.items ≡ 32 }
     requires place { at ≤ 64 }

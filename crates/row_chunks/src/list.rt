@@ -10,10 +10,9 @@ use std::marker::Model;
 use std::sync::Arc;
 use std::sync::ledger::Ledger;
 
-/// A list of rows, which contracts see as that list. The rows stand in chunks of 1 to 64, and what lists have in common is
-/// shared until one of them changes: then that one copies the chunk that it changes, if another has it too, and the others
-/// stay as they are. A change takes the time of a few hundred rows at most, and copies 64 rows at most, with a step for
-/// each.
+/// A list of rows, which contracts see as that list. The rows stand in chunks of 1 to 64, and what lists have in common
+/// is shared until one of them changes: then that one copies the chunk that it changes, if another has it too, and the
+/// others stay as they are. A change copies 64 rows at most, with a step for each.
 #[derive(Drop)]
 pub struct RowChunks<T> {
     trunk: Arc<Trunk<T>>,

@@ -75,11 +75,7 @@ pub(crate) fn walk_from<T>(trunk: &Trunk<T>, place: usize) -> Walk<'_, T>
 }
 
 /// The rows of a branch from a place on, and those of the branches after it.
-fn within<'a, T>(
-    branch: &'a Branch<T>,
-    at: usize,
-    branches: &'a [Piece<Branch<T>>],
-) -> Walk<'a, T>
+fn within<'a, T>(branch: &'a Branch<T>, at: usize, branches: &'a [Piece<Branch<T>>]) -> Walk<'a, T>
     requires place { at < length branch.now }
     requires counted { AllCounted branches.now }
     ensures { result ≡ drop at branch.now ++ rows_in branches.now }

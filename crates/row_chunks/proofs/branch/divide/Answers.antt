@@ -21,6 +21,6 @@ returns-clause-ok g c =
     let left = c.in_ok-left.left in
     let right = c.in_ok-right.right in
     let is : left.node ++ right.node ≡ insert c.index.result.now.node c.args.spot.offset c.args.row =
-      ap (λ (xs : List g.row.T.Denot). xs ++ right.node) c.in_ok-left.ensures.node ∙ ap (λ (xs : List g.row.T.Denot). c.in_ok-halves.halves.left ++ xs) c.in_ok-right.ensures.node ∙ c.in_ok-halves.ensures.rows ∙ ap (λ (xs : List g.row.T.Denot). insert xs c.args.spot.offset c.args.row) c.node.ensures in
+    ap (λ (xs : List g.row.T.Denot). xs ++ right.node) c.in_ok-left.ensures.node ∙ ap (λ (xs : List g.row.T.Denot). c.in_ok-halves.halves.left ++ xs) c.in_ok-right.ensures.node ∙ c.in_ok-halves.ensures.rows ∙ ap (λ (xs : List g.row.T.Denot). insert xs c.args.spot.offset c.args.row) c.node.ensures in
     ap (λ (ps : List (Held (List g.row.T.Denot))). rows_in (set ps c.args.spot.index left)) c.in_ok-insert.ensures.items
     ∙ divided_edit c.args.row c.args.chunks.now.items c.args.at c.args.spot.index c.args.spot.offset c.index.result.now left right c.requires.counted c.requires.spot c.requires.place c.index.ensures is

@@ -31,7 +31,7 @@ returns-clause-rows g c =
     let rows = c.as_slice-rows.result.now in
     let right = c.in_ok-right.ensures.equal ∙ take_rest rows 32 in
     let whole : c.in_ok-left.left.items ++ c.in_ok-right.right.items ≡ c.args.chunk.now =
-      ap (λ (xs : List g.row.T.Denot). xs ++ c.in_ok-right.right.items) c.in_ok-left.ensures.equal ∙ ap (λ (xs : List g.row.T.Denot). take 32 rows ++ xs) right ∙ take-append-drop 32 rows ∙ c.as_slice-rows.ensures.rows in
+    ap (λ (xs : List g.row.T.Denot). xs ++ c.in_ok-right.right.items) c.in_ok-left.ensures.equal ∙ ap (λ (xs : List g.row.T.Denot). take 32 rows ++ xs) right ∙ take-append-drop 32 rows ∙ c.as_slice-rows.ensures.rows in
     subst (λ (xs : List g.row.T.Denot). IfOk c.put_in.result (λ halves. halves.left ++ halves.right ≡ insert xs c.args.at c.args.row)) whole c.put_in.ensures.rows
 
 pub returns-clause-steps : goal.returns-clause-steps

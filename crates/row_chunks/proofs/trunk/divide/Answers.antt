@@ -40,6 +40,6 @@ returns-clause-same g c =
     let left = c.in_ok-left.left in
     let right = c.in_ok-right.right in
     let is : left.node ++ right.node ≡ c.index.result.now.node =
-      ap (λ (xs : List g.row.T.Denot). xs ++ right.node) c.in_ok-left.ensures.rows ∙ ap (λ (xs : List g.row.T.Denot). rows_in (take cut chunks) ++ xs) (c.in_ok-right.ensures.rows ∙ ap rows_in (take_rest chunks cut)) ∙ parted_rows chunks cut ∙ ap rows_in c.as_slice-chunks.ensures.value ∙ c.branch.view_is ∙ c.node-branch.ensures in
+    ap (λ (xs : List g.row.T.Denot). xs ++ right.node) c.in_ok-left.ensures.rows ∙ ap (λ (xs : List g.row.T.Denot). rows_in (take cut chunks) ++ xs) (c.in_ok-right.ensures.rows ∙ ap rows_in (take_rest chunks cut)) ∙ parted_rows chunks cut ∙ ap rows_in c.as_slice-chunks.ensures.value ∙ c.branch.view_is ∙ c.node-branch.ensures in
     ap (λ (ps : List (Held (List g.row.T.Denot))). rows_in (set ps c.args.index left)) c.in_ok-insert.ensures.items
     ∙ divided_same c.args.branches.now.items c.args.index c.index.result.now left right c.requires.within c.index.ensures is
